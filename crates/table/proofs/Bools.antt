@@ -1,0 +1,42 @@
+-- Facts on tests joined by `&&` and `||`, and on equality tests.
+use Prim.Native.Nat.{ℕ}
+use mathlib.Core.Path.{_≡_, refl, sym}
+use mathlib.Core.Logic.{_⊎_, inl, inr}
+use mathlib.Core.Bool.{Bool, true, false, _&&_, _||_, true≢false, false≢true}
+use borrow.Author.Tests.{eqb-true, eqb-false, eq-eqb, ne-eqb}
+use lib.Dec.{eqb}
+
+-- the two parts of a test that holds, and back
+pub and-parts : (a b : Bool) → a && b ≡ true → (a ≡ true) × (b ≡ true)
+and-parts true b e = (refl, e)
+and-parts false b e = absurd (false≢true e)
+
+pub parts-and : (a b : Bool) → a ≡ true → b ≡ true → a && b ≡ true
+parts-and true b p q = q
+parts-and false b p q = p
+
+-- one of two tests holds, and back
+pub or-parts : (a b : Bool) → a || b ≡ true → (a ≡ true) ⊎ (b ≡ true)
+or-parts true b e = inl refl
+or-parts false b e = inr e
+
+pub or-left : (a b : Bool) → a ≡ true → a || b ≡ true
+or-left true b p = refl
+or-left false b p = absurd (false≢true p)
+
+pub or-right : (a b : Bool) → b ≡ true → a || b ≡ true
+or-right true b q = refl
+or-right false b q = q
+
+-- none of two tests holds
+pub or-neither : (a b : Bool) → a || b ≡ false → (a ≡ false) × (b ≡ false)
+or-neither true b e = absurd (true≢false e)
+or-neither false b e = (refl, e)
+
+-- two numbers may be compared either way round
+pub eqb-sym : (a b : ℕ) → eqb a b ≡ eqb b a
+eqb-sym a b = go (eqb b a) refl
+  where
+    go : (t : Bool) → eqb b a ≡ t → eqb a b ≡ t
+    go true e = eq-eqb a b (sym (eqb-true b a e))
+    go false e = ne-eqb a b (λ q. eqb-false b a e (sym q))

@@ -1,0 +1,8 @@
+pub mod Bools
+pub mod Numbers
+pub mod All
+pub mod Verdicts
+pub mod Records
+pub mod Scan
+pub mod Given
+pub mod Accepted

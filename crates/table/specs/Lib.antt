@@ -1,0 +1,4 @@
+pub mod Verdict
+pub mod Table
+pub mod Accept
+pub mod Facts

@@ -1,0 +1,32 @@
+// The packed table: bytes in, an accepted table or its refusal out. Knows nothing of what a formula means.
+mod check;
+mod counts;
+mod list;
+mod nodes;
+mod part;
+mod record;
+mod refusal;
+mod section;
+mod states;
+mod steps;
+mod width;
+
+pub use check::check_table;
+pub use counts::Counts;
+pub use counts::counts_of;
+pub use list::check_list;
+pub use nodes::Shape;
+pub use nodes::shape_of;
+pub use record::Node;
+pub use record::State;
+pub use record::Step;
+pub use record::node_at;
+pub use record::state_at;
+pub use record::step_at;
+pub use refusal::Refusal;
+pub use refusal::Verdict;
+pub use refusal::refusal_number;
+pub use refusal::verdict_number;
+pub use section::nodes_part;
+pub use section::states_part;
+pub use section::steps_part;
