@@ -4,5 +4,5 @@ pub mod All
 pub mod Verdicts
 pub mod Records
 pub mod Scan
-pub mod Given
+pub mod Rows
 pub mod Accepted

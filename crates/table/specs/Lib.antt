@@ -2,3 +2,4 @@ pub mod Verdict
 pub mod Table
 pub mod Accept
 pub mod Facts
+pub mod Rows

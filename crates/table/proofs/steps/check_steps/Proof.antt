@@ -21,7 +21,8 @@ use Rattle.table.specs.Accept.{all, any, stepFits, distinct}
 use Rattle.table.proofs.Accepted.{step-within}
 use Rattle.table.proofs.Records.{records-done}
 use Rattle.table.proofs.Scan.{record-all, record-take}
-use Rattle.table.proofs.Given.{Given, given-none, given-more, repeated-more}
+use Rattle.table.proofs.Rows.{rows-none, rows-more, repeated-more}
+use Rattle.table.specs.Rows.{Rows}
 use Rattle.table.proofs.steps.check_steps.Statement.{statement}
 use Rattle.table.proofs.steps.check_steps.Tie as tie
 use Rattle.table.proofs.steps.check_steps.Reads as reads
@@ -41,7 +42,7 @@ abbrev Inv-loop : tie.InvT-loop
 Inv-loop section e n given₀ repeated₀ j₀ given repeated j =
     (j ≤ e)
     × (all (stepFits n) (records stepOf 2 e section) ≡ all (stepFits n) (drop j (records stepOf 2 e section)))
-    × Given given (take j (records stepOf 2 e section))
+    × Rows given (take j (records stepOf 2 e section))
     × (repeated ≡ not (distinct (take j (records stepOf 2 e section))))
 
 abbrev μ-loop : tie.MeasureT-loop
@@ -50,7 +51,7 @@ abbrev μ-loop : tie.MeasureT-loop
 -- src/steps.rt:34:5
 loop-holds : tie.Need-loop-holds Inv-loop μ-loop
 unfolding distinct
-loop-holds c = (zero-le, refl, given-none, refl)
+loop-holds c = (zero-le, refl, rows-none, refl)
 
 -- src/steps.rt:35:13
 step-at-requires : tie.Need-step-at-requires Inv-loop μ-loop
@@ -118,8 +119,8 @@ loop-again c =
     let g = c .before .before .before .before .before .before .loop .inv .2 in
     let rows = c .before .before .before .before .before .before .loop .given in
     let seam : take (j + 1) xs ≡ take j xs ++ (x ∷ []) = record-take stepOf 2 (a .e) l j h x here in
-    let more : Given (set rows (x .from) (c .insert .result)) (take (j + 1) xs) =
-    rw seam (rw (c .insert .ensures) (given-more rows (take j xs) g x (in-range .0) (in-range .1))) in
+    let more : Rows (set rows (x .from) (c .insert .result)) (take (j + 1) xs) =
+    rw seam (rw (c .insert .ensures) (rows-more rows (take j xs) g x (in-range .0) (in-range .1))) in
     let whole : not (distinct (take (j + 1) xs)) ≡ c .before .before .before .before .before .before .loop .repeated || member (getD rows (x .from) 0) (x .to) =
     rw seam (repeated-more rows (take j xs) g x (in-range .0) (in-range .1) ∙ ap (λ (b : Bool). b || member (getD rows (x .from) 0) (x .to)) (sym (c .before .before .before .before .before .before .loop .inv .3))) in
     let again : c .before .if2 .repeated ≡ not (distinct (take (j + 1) xs)) =

@@ -1,4 +1,4 @@
--- The table of bits that finds a step given twice: a row for each state, a bit for each end.
+-- The table of bits of a list of steps, built step by step.
 use Prim.Native.Nat.{ℕ, _<_}
 use mathlib.Core.Path.{_≡_, refl, sym, ap, ap₂, _∙_}
 use mathlib.Core.Bool.{Bool, true, false, not, _&&_, _||_}
@@ -13,23 +13,19 @@ use Rattle.sets.proofs.Laws.{member-zero}
 use Rattle.sets.proofs.SetOf.{member-setOf}
 use Rattle.table.specs.declared.record.Step.{Step}
 use Rattle.table.specs.Accept.{any, sameStep, distinct}
+use Rattle.table.specs.Rows.{Rows}
 use Rattle.table.proofs.All.{any-append, distinct-snoc}
 
--- bit t of row s says whether the step from s to t is among xs
-pub record Given (rows : List ℕ) (xs : List Step) : Type 0 where
-  pub size : length rows ≡ 32
-  pub bits : (s t : ℕ) → s < 32 → t < 32 → member (getD rows s 0) t ≡ any (sameStep (record { from = s; to = t })) xs
-
-pub given-none : Given (replicate 32 0) []
+pub rows-none : Rows (replicate 32 0) []
 unfolding any
-given-none = record { size = refl; bits = λ s t hs ht. ap (λ (m : ℕ). member m t) (getD-replicate 32 s 0 0 hs) ∙ member-zero t }
+rows-none = record { size = refl; bits = λ s t hs ht. ap (λ (m : ℕ). member m t) (getD-replicate 32 s 0 0 hs) ∙ member-zero t }
 
 or-false : (b : Bool) → b || false ≡ b
 or-false true = refl
 or-false false = refl
 
 -- with the step x given too, its bit is set
-module _ (rows : List ℕ) (xs : List Step) (g : Given rows xs) (x : Step) (hf : x .from < 32) (ht : x .to < 32) where
+module _ (rows : List ℕ) (xs : List Step) (g : Rows rows xs) (x : Step) (hf : x .from < 32) (ht : x .to < 32) where
   abbrev pub rows-with : List ℕ
   rows-with = set rows (x .from) (setOf 32 (λ t. member (getD rows (x .from) 0) t || eqb t (x .to)))
 
@@ -53,8 +49,8 @@ module _ (rows : List ℕ) (xs : List Step) (g : Given rows xs) (x : Step) (hf :
       ∙ g .bits s t hs h
       ∙ sym (one-more s t ∙ ap (λ (b : Bool). any (sameStep (record { from = s; to = t })) xs || (b && eqb t (x .to))) (ne-eqb s (x .from) d) ∙ or-false (any (sameStep (record { from = s; to = t })) xs))
 
-  pub given-more : Given rows-with (xs ++ (x ∷ []))
-  given-more = record {
+  pub rows-more : Rows rows-with (xs ++ (x ∷ []))
+  rows-more = record {
     size = length-set rows (x .from) (setOf 32 (λ t. member (getD rows (x .from) 0) t || eqb t (x .to))) ∙ g .size;
     bits = λ s t hs h. elim (ℕ-discrete s (x .from)) [
       | yes e ↦ rw e (same-row t h)

@@ -1,0 +1,9 @@
+pub mod Tabulate
+pub mod Stable
+pub mod Paths
+pub mod Rank
+pub mod BottomUp
+pub mod Targets
+pub mod Meaning
+pub mod Repair
+pub mod Mistakes

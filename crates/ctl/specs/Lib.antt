@@ -1,0 +1,7 @@
+pub mod Meaning
+pub mod Rule
+pub mod Kept
+pub mod Rank
+pub mod Levels
+pub mod Labels
+pub mod Tests

@@ -1,0 +1,1 @@
+// What a formula means, and why its labels are that meaning: definitions and theorems, no code.
