@@ -12,7 +12,7 @@ use Rattle.table.specs.Facts.{Wellformed}
 use Rattle.ctl.specs.Meaning.{Formula, bottom, Holds}
 use Rattle.ctl.specs.Rule.{Quantifier, every, some, Operator, constant, atom, negation, conjunction, disjunction, next, release, operatorOf, formulaOf, formula}
 use Rattle.ctl.specs.Kept.{Next, Kept, Total, Labelled, NodeHolds}
-use Rattle.ctl.specs.Levels.{has, tabulate, iterate, nextIn, level, levels, released}
+use Rattle.ctl.specs.Levels.{has, iterate, nextIn, level, levels, released}
 use Rattle.ctl.specs.Labels.{marks, targets, isKept, labelOf, label, marked}
 use Rattle.ctl.proofs.Tabulate.{length-tabulate, getD-tabulate, getD-tabulate-past}
 use Rattle.ctl.proofs.Stable.{level-length}

@@ -1,10 +1,9 @@
 -- Repair, decided by labels: the judge's tests 11, 12 and 13, and its verdict on any bytes.
-use Prim.Native.Nat.{ℕ, suc}
-use mathlib.Core.Bool.{Bool, true, false, not, _&&_, _||_}
-use mathlib.Core.List.{List, [], _∷_}
-use lib.ListN.{length, getD}
+use Prim.Native.Nat.{ℕ}
+use mathlib.Core.Bool.{Bool, not, _&&_, _||_}
+use mathlib.Core.List.{List}
+use lib.ListN.{length}
 use lib.Dec.{eqb}
-use Rattle.table.specs.declared.record.Step.{Step}
 use Rattle.table.specs.declared.refusal.Refusal.the-variants.{NotTotal, NoInitialKept, RootFails}
 use Rattle.table.specs.declared.refusal.Verdict.{Verdict}
 use Rattle.table.specs.Verdict.{require, _then_}

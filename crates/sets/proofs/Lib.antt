@@ -1,3 +1,4 @@
 pub mod Laws
 pub mod SetOf
+pub mod Collect
 mod Words

@@ -1,6 +1,6 @@
 -- What the functions compute on words of 32 bits, as sets.
 use mathlib.Core.Path.{_≡_, sym, ap, _∙_}
-use mathlib.Core.Bool.{Bool, not, _&&_, _||_, or-false}
+use mathlib.Core.Bool.{Bool, not, _&&_, _||_, and-true, or-false}
 use Prim.Native.Nat.{ℕ, _-_, _*_, _/_, _%_, _^_, _≤_, _<_}
 use native.Mathlib.Nat.{one-mul, mod-eq-of-lt, lt-of-lt-of-le, lt-of-le-of-lt, sub-le}
 use native.Mathlib.Omega.{arith}
@@ -10,7 +10,7 @@ use lib.Pow.{pow-lt, ones-lt, ones-sub-lt}
 use lib.Bits.{bitAnd, bitOr, and-mask, and-lt, or-lt}
 use Rattle.sets.specs.Member.{member, setOf}
 use Rattle.sets.proofs.Laws.{member-and, member-or, member-power, member-ones, member-complement}
-use Rattle.sets.proofs.SetOf.{setOf-unique}
+use Rattle.sets.proofs.SetOf.{setOf-cong, setOf-unique}
 
 -- a one shifted by less than the width is a power of two
 pub shifted-one : (s : ℕ) → s < 32 → (1 * 2 ^ s) % 4294967296 ≡ 2 ^ s
@@ -61,3 +61,17 @@ pub below-all : (n : ℕ) → 32 ≤ n → 4294967295 ≡ setOf 32 (λ t. ltb t 
 below-all n h =
     setOf-unique 32 (λ t. ltb t n) 4294967295 (ones-lt 32)
     (λ t l. member-ones 32 t ∙ lt-ltb t 32 l ∙ sym (lt-ltb t n (lt-of-lt-of-le l h)))
+
+-- `set & !(1 << s)`
+pub remove-set : (set s : ℕ) → set < 2 ^ 32 → s < 32
+    → bitAnd set (4294967295 - (1 * 2 ^ s) % 4294967296) ≡ setOf 32 (λ t. member set t && not (eqb t s))
+remove-set set s p h =
+    ap (λ (x : ℕ). bitAnd set (4294967295 - x)) (shifted-one s h)
+    ∙ minus-set set (2 ^ s) p (pow-lt {j = 32} h)
+    ∙ setOf-cong 32 _ _ (λ t l. ap (λ (x : Bool). member set t && not x) (member-power s t))
+
+-- a state that no word holds is not there to remove
+pub remove-past : (set s : ℕ) → set < 2 ^ 32 → 32 ≤ s → set ≡ setOf 32 (λ t. member set t && not (eqb t s))
+remove-past set s p h =
+    setOf-unique 32 (λ t. member set t && not (eqb t s)) set p
+    (λ t l. sym (ap (λ (x : Bool). member set t && not x) (ne-eqb t s (omega arith)) ∙ and-true (member set t)))

@@ -17,6 +17,23 @@ pub fn insert(set: u32, s: usize) -> u32
     if s < 32 { set | 1 << s } else { set }
 }
 
+// With state s where `yes` is true, and as it is where not.
+pub fn insert_if(set: u32, s: usize, yes: bool) -> u32
+    ensures { λ r. ⌜ r ≡ setOf 32 (λ t. member set t || (yes && eqb t s)) ⌝ }
+{
+    if yes {
+        return insert(set, s);
+    }
+    set
+}
+
+// The set without the state s.
+pub fn remove(set: u32, s: usize) -> u32
+    ensures { λ r. ⌜ r ≡ setOf 32 (λ t. member set t && not (eqb t s)) ⌝ }
+{
+    if s < 32 { set & !(1 << s) } else { set }
+}
+
 // The first n states: all 32 for an n from 32 on.
 pub fn below(n: usize) -> u32
     ensures { λ r. ⌜ r ≡ setOf 32 (λ t. ltb t n) ⌝ }
@@ -46,10 +63,10 @@ pub fn intersection(a: u32, b: u32) -> u32
 }
 
 // How many states the set has.
-pub fn count(set: u32) -> usize
+pub fn count(set: u32) -> u32
     ensures { λ r. ⌜ r ≡ countOf 32 (member set) ⌝ }
 {
-    u32::count_ones(set) as usize
+    u32::count_ones(set)
 }
 
 // The lowest state of the set, or 32 where it is empty.

@@ -14,8 +14,7 @@ use Rattle.table.specs.declared.record.Step.{Step}
 use Rattle.table.specs.declared.refusal.Refusal.the-variants.{Length}
 use Rattle.table.specs.declared.refusal.Verdict.the-variants.{Accepted}
 use Rattle.table.specs.Verdict.{require}
-use Rattle.table.specs.Table.{Table, tableOf, countsOf, packedLength, headerWidth, stateWidth, stepWidth, nodeWidth}
-use Rattle.table.specs.Table.{statesPart, stepsPart, nodesPart, stateOf, stepOf, nodeOf, stateAt, stepAt, nodeAt}
+use Rattle.table.specs.Table.{Table, tableOf, countsOf, packedLength, headerWidth, stateWidth, stepWidth, nodeWidth, statesPart, stepsPart, nodesPart, stateOf, stepOf, nodeOf, stateAt, stepAt, nodeAt}
 use Rattle.table.specs.Accept.{all, any, distinct, countsFit, stateFits, isInitial, stepFits, nodeFits, nodesFit, recordsVerdict, tableVerdict}
 use Rattle.table.specs.Facts.{Wellformed, Packed}
 use Rattle.table.proofs.Bools.{and-parts}

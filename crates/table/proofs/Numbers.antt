@@ -1,7 +1,6 @@
 -- Small facts on numbers and tests that the proofs of this crate share.
 use Prim.Native.Nat.{ℕ, suc, _/_, _^_, _≤_, _<_}
 use mathlib.Core.Path.{_≡_, sym, subst, _∙_}
-use mathlib.Core.Bool.{Bool, true, false, _&&_}
 use native.Mathlib.Decide.{ℕ-discrete, decLt}
 use native.Mathlib.Nat.{div-eq-of-lt, le-div-iff-mul-le}
 use native.Mathlib.Omega.{arith}

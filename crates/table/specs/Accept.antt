@@ -1,5 +1,5 @@
 -- 01, "Numbers given", 2 to 9: which tables and lists are accepted, and the refusal of every other.
-use Prim.Native.Nat.{ℕ, zero, suc, _^_}
+use Prim.Native.Nat.{ℕ, suc, _^_}
 use mathlib.Core.Bool.{Bool, true, false, not, _&&_, _||_}
 use mathlib.Core.List.{List, [], _∷_}
 use lib.ListN.{length, getD}

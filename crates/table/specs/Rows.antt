@@ -1,13 +1,20 @@
 -- A table of bits for steps, a row for each state and a bit for each end.
-use Prim.Native.Nat.{ℕ, _<_}
+use Prim.Native.Nat.{ℕ, _^_, _<_}
 use mathlib.Core.Path.{_≡_}
+use mathlib.Core.Bool.{_||_}
 use mathlib.Core.List.{List}
-use lib.ListN.{length, getD}
-use Rattle.sets.specs.Member.{member}
+use lib.Dec.{eqb}
+use lib.ListN.{length, getD, set}
+use Rattle.sets.specs.Member.{member, setOf}
 use Rattle.table.specs.declared.record.Step.{Step}
 use Rattle.table.specs.Accept.{any, sameStep}
 
 -- bit t of row s says whether the step from s to t is among xs
 pub record Rows (rows : List ℕ) (xs : List Step) : Type 0 where
   pub size : length rows ≡ 32
+  pub words : (s : ℕ) → s < 32 → getD rows s 0 < 2 ^ 32
   pub bits : (s t : ℕ) → s < 32 → t < 32 → member (getD rows s 0) t ≡ any (sameStep (record { from = s; to = t })) xs
+
+-- the rows with the bit of one more step set
+abbrev pub rowsWith : List ℕ → Step → List ℕ
+rowsWith rows x = set rows (x .from) (setOf 32 (λ t. member (getD rows (x .from) 0) t || eqb t (x .to)))

@@ -5,23 +5,13 @@ use mathlib.Core.List.{List}
 use lib.ListN.{length}
 use denote.Ref.{now}
 use Rattle.table.specs.declared.counts.Counts.{Counts}
-use Rattle.table.specs.declared.refusal.Verdict.{Verdict}
-use Rattle.table.specs.Verdict.{_then_}
 use Rattle.table.specs.Table.{records, stateOf, stepOf, nodeOf, countsOf, statesPart, stepsPart, nodesPart, tableOf}
-use Rattle.table.specs.Accept.{statesVerdict, stepsVerdict, nodesVerdict, recordsVerdict}
+use Rattle.table.specs.Accept.{statesVerdict, stepsVerdict, nodesVerdict}
 use Rattle.table.proofs.Records.{records-length}
 use Rattle.table.proofs.Verdicts.{then-refused, then-next}
 use borrow.Author.Needs.{needs}
 use Rattle.table.proofs.check.check_sections.Statement.{statement}
 use Rattle.table.proofs.check.check_sections.Tie as tie
-use Rattle.table.proofs.check.check_sections.Reads as reads
-use Rattle.table.proofs.check.check_sections.Lts as lts
-use Rattle.table.proofs.nodes.check_nodes.Reads as check-nodes-reads
-use Rattle.table.proofs.section.nodes_part.Reads as nodes-part-reads
-use Rattle.table.proofs.section.states_part.Reads as states-part-reads
-use Rattle.table.proofs.section.steps_part.Reads as steps-part-reads
-use Rattle.table.proofs.states.check_states.Reads as check-states-reads
-use Rattle.table.proofs.steps.check_steps.Reads as check-steps-reads
 
 -- the verdict of a section read with the table's counts is that of the table's records
 module _ (l : List ℕ) (k : Counts) (here : k ≡ countsOf l) where
@@ -36,19 +26,15 @@ module _ (l : List ℕ) (k : Counts) (here : k ≡ countsOf l) where
   of-nodes : (part : List ℕ) → part ≡ nodesPart l → nodesVerdict (k .props) (records nodeOf 3 (k .nodes) part) ≡ nodesVerdict (tableOf l .props) (tableOf l .nodes)
   of-nodes part e i = nodesVerdict (here i .props) (records nodeOf 3 (here i .nodes) (e i))
 
--- src/check.rt:27:30
 states-part-requires : tie.Need-states-part-requires
 states-part-requires c κs = search needs
 
--- src/check.rt:27:9
 check-states-requires : tie.Need-check-states-requires
 check-states-requires c κs = search needs
 
--- src/check.rt:29:9
 enum-told : tie.Need-enum-told
 enum-told c = search needs
 
--- src/check.rt:29:9
 returns : tie.Need-returns
 returns c =
     let a = c .before .before .before .before .before .args in
@@ -60,19 +46,15 @@ returns c =
 enum-told-2 : tie.Need-enum-told-2
 enum-told-2 c = search needs
 
--- src/check.rt:31:30
 steps-part-requires : tie.Need-steps-part-requires
 steps-part-requires c κs = search needs
 
--- src/check.rt:31:9
 check-steps-requires : tie.Need-check-steps-requires
 check-steps-requires c κs = search needs
 
--- src/check.rt:33:9
 enum-told-3 : tie.Need-enum-told-3
 enum-told-3 c = search needs
 
--- src/check.rt:33:9
 returns-2 : tie.Need-returns-2
 returns-2 c =
     let a = c .before .before .before .before .before .before .before .before .before .args in
@@ -87,15 +69,12 @@ returns-2 c =
 enum-told-4 : tie.Need-enum-told-4
 enum-told-4 c = search needs
 
--- src/check.rt:35:17
 nodes-part-requires : tie.Need-nodes-part-requires
 nodes-part-requires c κs = search needs
 
--- src/check.rt:35:5
 check-nodes-requires : tie.Need-check-nodes-requires
 check-nodes-requires c κs = search needs
 
--- src/check.rt:22:1
 returns-3 : tie.Need-returns-3
 returns-3 c =
     let a = c .before .before .before .before .before .before .before .before .before .before .before .args in

@@ -3,40 +3,32 @@ use native.Mathlib.Omega.{arith}
 use borrow.Author.Tests.{le-leb, lt-leb}
 use Rattle.table.proofs.counts.counts_fit.Statement.{statement}
 use Rattle.table.proofs.counts.counts_fit.Tie as tie
-use Rattle.table.proofs.counts.counts_fit.Reads as reads
-use Rattle.table.proofs.counts.counts_fit.Lts as lts
 
--- src/counts.rt:35:9
 returns : tie.Need-returns
 returns c =
     let a = c .before .before .args .c in
     simp (lt-leb 1 (a .states) (omega arith))
 
--- src/counts.rt:38:9
 returns-2 : tie.Need-returns-2
 returns-2 c =
     let a = c .before .before .before .before .args .c in
     simp (le-leb 1 (a .states) (omega arith), lt-leb (a .states) 32 (omega arith))
 
--- src/counts.rt:41:9
 returns-3 : tie.Need-returns-3
 returns-3 c =
     let a = c .before .before .before .before .before .before .args .c in
     simp (le-leb 1 (a .states) (omega arith), le-leb (a .states) 32 (omega arith), lt-leb (a .steps) 128 (omega arith))
 
--- src/counts.rt:44:9
 returns-4 : tie.Need-returns-4
 returns-4 c =
     let a = c .before .before .before .before .before .before .before .before .args .c in
     simp (le-leb 1 (a .states) (omega arith), le-leb (a .states) 32 (omega arith), le-leb (a .steps) 128 (omega arith), lt-leb 1 (a .nodes) (omega arith))
 
--- src/counts.rt:47:9
 returns-5 : tie.Need-returns-5
 returns-5 c =
     let a = c .before .before .before .before .before .before .before .before .before .before .args .c in
     simp (le-leb 1 (a .states) (omega arith), le-leb (a .states) 32 (omega arith), le-leb (a .steps) 128 (omega arith), le-leb 1 (a .nodes) (omega arith), lt-leb (a .nodes) 32 (omega arith))
 
--- src/counts.rt:31:1
 returns-6 : tie.Need-returns-6
 returns-6 c =
     let a = c .before .before .before .before .before .before .before .before .before .before .before .args .c in

@@ -2,27 +2,19 @@
 use borrow.Author.Needs.{needs}
 use Rattle.table.proofs.counts.counts_of.Statement.{statement}
 use Rattle.table.proofs.counts.counts_of.Tie as tie
-use Rattle.table.proofs.counts.counts_of.Reads as reads
-use Rattle.table.proofs.counts.counts_of.Lts as lts
-use Rattle.table.proofs.part.byte_at.Reads as byte-at-reads
 
--- src/counts.rt:19:17
 byte-at-requires : tie.Need-byte-at-requires
 byte-at-requires c κs = search needs
 
--- src/counts.rt:20:16
 byte-at-requires-2 : tie.Need-byte-at-requires-2
 byte-at-requires-2 c κs = search needs
 
--- src/counts.rt:21:16
 byte-at-requires-3 : tie.Need-byte-at-requires-3
 byte-at-requires-3 c κs = search needs
 
--- src/counts.rt:22:16
 byte-at-requires-4 : tie.Need-byte-at-requires-4
 byte-at-requires-4 c κs = search needs
 
--- src/counts.rt:15:1
 returns : tie.Need-returns
 returns c = λ i. record { states = c .before .before .before .byte-at .ensures i; steps = c .before .before .byte-at2 .ensures i; nodes = c .before .byte-at3 .ensures i; props = c .byte-at4 .ensures i }
 

@@ -1,25 +1,19 @@
 -- `check_list` meets its contract. The loop's invariant: the list's bytes are all bits exactly when those from j on are.
-use mathlib.Core.Bool.{Bool, true, false}
-use Prim.Native.Nat.{_+_}
-use lib.Dec.{eqb}
-use lib.ListN.{getD, drop-of-length-le}
+use mathlib.Core.Bool.{Bool, true, false, _&&_}
+use Prim.Native.Nat.{_+_, _-_, _≤_, zero-le}
+use lib.Dec.{leb}
+use lib.ListN.{getD, drop-of-length-le, length, drop}
 use Rattle.table.specs.declared.refusal.Refusal.the-variants.{ListForm}
 use Rattle.table.specs.Verdict.{require}
 use Rattle.table.proofs.Scan.{all-next}
-use Prim.Native.Nat.{ℕ, zero, suc, _-_, _≤_, _<_, zero-le}
 use mathlib.Core.Path.{_≡_, refl, sym, ap, _∙_}
-use mathlib.Core.Bool.{_&&_, _||_}
 use native.Mathlib.Omega.{arith}
 use borrow.Author.Needs.{needs}
 use borrow.Author.Tests.{lt-leb, le-leb, eq-eqb, ne-eqb}
-use lib.Dec.{leb}
-use lib.ListN.{length, drop}
 use denote.Ref.{now}
 use Rattle.table.specs.Accept.{all, listVerdict}
 use Rattle.table.proofs.list.check_list.Statement.{statement}
 use Rattle.table.proofs.list.check_list.Tie as tie
-use Rattle.table.proofs.list.check_list.Reads as reads
-use Rattle.table.proofs.list.check_list.Lts as lts
 
 abbrev Inv-loop : tie.InvT-loop
 Inv-loop list e j₀ j = (j ≤ length list) × (all (λ b. leb b 1) list ≡ all (λ b. leb b 1) (drop j list))
@@ -27,22 +21,18 @@ Inv-loop list e j₀ j = (j ≤ length list) × (all (λ b. leb b 1) list ≡ al
 abbrev μ-loop : tie.MeasureT-loop
 μ-loop list e j₀ j = length list - j
 
--- src/list.rt:13:9
 returns : tie.Need-returns Inv-loop μ-loop
 unfolding listVerdict
 returns c =
     let a = c .before .args in
     ap (λ (b : Bool). require ListForm (b && all (λ k. leb k 1) (now (a .list)))) (sym (ne-eqb (length (now (a .list))) (a .e) (c .if1 .taken)))
 
--- src/list.rt:16:5
 loop-holds : tie.Need-loop-holds Inv-loop μ-loop
 loop-holds c = (zero-le, refl)
 
--- src/list.rt:17:16
 shared-slice-read-if2 : tie.Need-shared-slice-read-if2 Inv-loop μ-loop
 shared-slice-read-if2 c = omega arith
 
--- src/list.rt:18:13
 returns-2 : tie.Need-returns-2 Inv-loop μ-loop
 unfolding listVerdict
 returns-2 c =
@@ -52,15 +42,12 @@ returns-2 c =
     let whole : all (λ k. leb k 1) l ≡ false = c .before .before .before .loop .inv .1 ∙ all-next (λ k. leb k 1) l j (c .before .before .loop-test .taken) ∙ ap (λ (b : Bool). b && all (λ k. leb k 1) (drop (j + 1) l)) (lt-leb (getD l j 0) 1 (c .if2 .taken)) in
     sym (ap (λ (b : Bool). require ListForm (b && all (λ k. leb k 1) l)) (eq-eqb (length l) (a .e) (c .before .before .before .before .if1 .left)) ∙ ap (require ListForm) whole)
 
--- src/list.rt:20:9
 add-j : tie.Need-add-j Inv-loop μ-loop
 add-j c = search needs
 
--- src/list.rt:16:5
 loop-less : tie.Need-loop-less Inv-loop μ-loop
 loop-less c = omega arith
 
--- src/list.rt:16:5
 loop-again : tie.Need-loop-again Inv-loop μ-loop
 loop-again c =
     let a = c .before .before .before .before .before .args in
@@ -68,7 +55,6 @@ loop-again c =
     let j = c .before .before .before .loop .j in
     (omega arith, c .before .before .before .loop .inv .1 ∙ all-next (λ k. leb k 1) l j (c .before .before .loop-test .taken) ∙ ap (λ (b : Bool). b && all (λ k. leb k 1) (drop (j + 1) l)) (le-leb (getD l j 0) 1 (c .if2 .left)))
 
--- src/list.rt:9:1
 returns-3 : tie.Need-returns-3 Inv-loop μ-loop
 unfolding listVerdict all
 returns-3 c =

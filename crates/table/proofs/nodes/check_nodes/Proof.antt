@@ -1,30 +1,26 @@
 -- `check_nodes` meets its contract. The loop's invariant: the whole section fits exactly when the records from i on do.
-use mathlib.Core.Bool.{Bool, true, false}
+use mathlib.Core.Bool.{Bool, true, false, _&&_}
 use borrow.Author.Tests.{not-true, not-false}
 use Rattle.table.specs.declared.record.Node.{Node}
 use Rattle.table.specs.declared.nodes.Shape.{Shape}
 use Rattle.table.specs.declared.refusal.Refusal.the-variants.{NodeRecord}
 use Rattle.table.specs.Verdict.{require}
-use Rattle.table.specs.Accept.{fieldsFit}
-use Prim.Native.Nat.{ℕ, zero, suc, _+_, _*_, _-_, _≤_, _<_, zero-le}
+use Rattle.table.specs.Accept.{shapeOf, fieldsFit, nodesFit, nodeFits}
+use Prim.Native.Nat.{ℕ, _+_, _-_, _≤_, zero-le}
 use mathlib.Core.Path.{_≡_, refl, sym, ap, _∙_}
-use mathlib.Core.Bool.{_&&_}
-use mathlib.Core.List.{List}
 use native.Mathlib.Omega.{arith}
 use borrow.Author.Needs.{needs}
-use lib.ListN.{length, drop}
+use lib.ListN.{drop}
 use denote.Ref.{now}
 use Rattle.table.specs.Table.{records, nodeOf}
-use Rattle.table.specs.Accept.{nodesFit, nodeFits}
 use Rattle.table.proofs.Records.{records-done}
 use Rattle.table.proofs.Scan.{record-nodes}
 use Rattle.table.proofs.nodes.check_nodes.Statement.{statement}
 use Rattle.table.proofs.nodes.check_nodes.Tie as tie
-use Rattle.table.proofs.nodes.check_nodes.Reads as reads
-use Rattle.table.proofs.nodes.check_nodes.Lts as lts
-use Rattle.table.proofs.nodes.fields_fit.Reads as fields-fit-reads
-use Rattle.table.proofs.nodes.shape_of.Reads as shape-of-reads
-use Rattle.table.proofs.record.node_at.Reads as node-at-reads
+
+-- the answer of the test on the fields is that of the test on the node
+tested : (p i : ℕ) (x : Node) (s : Shape) → s ≡ shapeOf (x .kind) → (b : Bool) → b ≡ fieldsFit s p i (x .a) (x .b) → b ≡ nodeFits p i x
+tested p i x s e b f = f ∙ ap (λ (t : Shape). fieldsFit t p i (x .a) (x .b)) e
 
 abbrev Inv-loop : tie.InvT-loop
 Inv-loop section f p i₀ i = (i ≤ f) × (nodesFit p 0 (records nodeOf 3 f section) ≡ nodesFit p i (drop i (records nodeOf 3 f section)))
@@ -32,50 +28,43 @@ Inv-loop section f p i₀ i = (i ≤ f) × (nodesFit p 0 (records nodeOf 3 f sec
 abbrev μ-loop : tie.MeasureT-loop
 μ-loop section f p i₀ i = f - i
 
--- src/nodes.rt:48:5
 loop-holds : tie.Need-loop-holds Inv-loop μ-loop
 loop-holds c = (zero-le, refl)
 
--- src/nodes.rt:49:13
 node-at-requires : tie.Need-node-at-requires Inv-loop μ-loop
 node-at-requires c κs = search needs
 
--- src/nodes.rt:50:24
 shape-of-requires : tie.Need-shape-of-requires Inv-loop μ-loop
 shape-of-requires c κs = search needs
 
--- src/nodes.rt:50:13
 fields-fit-requires : tie.Need-fields-fit-requires Inv-loop μ-loop
 fields-fit-requires c κs = search needs
 
--- src/nodes.rt:51:13
 returns : tie.Need-returns Inv-loop μ-loop
 returns c =
     let a = c .before .before .before .before .before .before .before .args in
     let i = c .before .before .before .before .before .loop .i in
     let x = c .before .before .before .node-at .result in
-    let fails : nodeFits (a .p) i x ≡ false = ap (λ (s : Shape). fieldsFit s (a .p) i (x .a) (x .b)) (sym (c .before .before .shape-of .ensures)) ∙ sym (c .before .fields-fit .ensures) ∙ not-true _ (c .if1 .taken) in
+    let fails : nodeFits (a .p) i x ≡ false =
+    sym (tested (a .p) i x (c .before .before .shape-of .result) (c .before .before .shape-of .ensures) (c .before .fields-fit .result) (c .before .fields-fit .ensures)) ∙ not-true _ (c .if1 .taken) in
     let whole = c .before .before .before .before .before .loop .inv .1 ∙ record-nodes (a .p) nodeOf 3 (a .f) (now (a .section)) i (c .before .before .before .before .loop-test .taken) x (c .before .before .before .node-at .ensures) ∙ ap (λ (b : Bool). b && nodesFit (a .p) (i + 1) (drop (i + 1) (records nodeOf 3 (a .f) (now (a .section))))) fails in
     ap (require NodeRecord) (sym whole)
 
--- src/nodes.rt:53:9
 add-i : tie.Need-add-i Inv-loop μ-loop
 add-i c = search needs
 
--- src/nodes.rt:48:5
 loop-less : tie.Need-loop-less Inv-loop μ-loop
 loop-less c = omega arith
 
--- src/nodes.rt:48:5
 loop-again : tie.Need-loop-again Inv-loop μ-loop
 loop-again c =
     let a = c .before .before .before .before .before .before .before .args in
     let i = c .before .before .before .before .before .loop .i in
     let x = c .before .before .before .node-at .result in
-    let fits : nodeFits (a .p) i x ≡ true = ap (λ (s : Shape). fieldsFit s (a .p) i (x .a) (x .b)) (sym (c .before .before .shape-of .ensures)) ∙ sym (c .before .fields-fit .ensures) ∙ not-false _ (c .if1 .left) in
+    let fits : nodeFits (a .p) i x ≡ true =
+    sym (tested (a .p) i x (c .before .before .shape-of .result) (c .before .before .shape-of .ensures) (c .before .fields-fit .result) (c .before .fields-fit .ensures)) ∙ not-false _ (c .if1 .left) in
     (omega arith, c .before .before .before .before .before .loop .inv .1 ∙ record-nodes (a .p) nodeOf 3 (a .f) (now (a .section)) i (c .before .before .before .before .loop-test .taken) x (c .before .before .before .node-at .ensures) ∙ ap (λ (b : Bool). b && nodesFit (a .p) (i + 1) (drop (i + 1) (records nodeOf 3 (a .f) (now (a .section))))) fits)
 
--- src/nodes.rt:44:1
 returns-2 : tie.Need-returns-2 Inv-loop μ-loop
 unfolding nodesFit
 returns-2 c =

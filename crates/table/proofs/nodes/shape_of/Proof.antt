@@ -9,34 +9,25 @@ use Rattle.table.proofs.Numbers.{two}
 use borrow.Author.Needs.{needs}
 use Rattle.table.proofs.nodes.shape_of.Statement.{statement}
 use Rattle.table.proofs.nodes.shape_of.Tie as tie
-use Rattle.table.proofs.nodes.shape_of.Reads as reads
-use Rattle.table.proofs.nodes.shape_of.Lts as lts
 
--- src/nodes.rt:20:1
 returns : tie.Need-returns
 returns c = search needs
 
--- src/nodes.rt:20:1
 returns-2 : tie.Need-returns-2
 returns-2 c = two (λ (k : ℕ). Constant ≡ shapeOf k) 0 (c .before .before .args .kind) (omega arith) (omega arith) refl refl
 
--- src/nodes.rt:20:1
 returns-3 : tie.Need-returns-3
 returns-3 c = sym (List·getD-eq-default shapes Unknown {n = c .before .before .before .before .before .args .kind} (omega arith))
 
--- src/nodes.rt:20:1
 returns-4 : tie.Need-returns-4
 returns-4 c = two (λ (k : ℕ). Binary ≡ shapeOf k) 4 (c .before .before .before .args .kind) (omega (arith, c .before .before .match .rest .0 .1, c .before .before .match .rest .1)) (omega arith) refl refl
 
--- src/nodes.rt:20:1
 returns-5 : tie.Need-returns-5
 returns-5 c = two (λ (k : ℕ). Binary ≡ shapeOf k) 8 (c .before .before .before .before .before .args .kind) (omega arith) (omega arith) refl refl
 
--- src/nodes.rt:20:1
 returns-6 : tie.Need-returns-6
 returns-6 c = search needs
 
--- src/nodes.rt:20:1
 returns-7 : tie.Need-returns-7
 returns-7 c = two (λ (k : ℕ). Unary ≡ shapeOf k) 6 (c .before .before .before .before .args .kind) (omega arith) (omega arith) refl refl
 

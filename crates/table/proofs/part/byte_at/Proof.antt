@@ -6,22 +6,16 @@ use denote.Ref.{now}
 use borrow.Author.Needs.{needs}
 use Rattle.table.proofs.part.byte_at.Statement.{statement}
 use Rattle.table.proofs.part.byte_at.Tie as tie
-use Rattle.table.proofs.part.byte_at.Reads as reads
-use Rattle.table.proofs.part.byte_at.Lts as lts
 
--- src/part.rt:9:9
 shared-slice-read-result : tie.Need-shared-slice-read-result
 shared-slice-read-result c = search needs
 
--- src/part.rt:9:9
 cast-result : tie.Need-cast-result
 cast-result c = omega (arith, c .shared-slice-known .given (c .before .before .args .at))
 
--- src/part.rt:5:1
 returns : tie.Need-returns
 returns c = search needs
 
--- src/part.rt:5:1
 returns-2 : tie.Need-returns-2
 returns-2 c = sym (List·getD-eq-default (now (c .before .args .bytes)) 0 (c .if1 .left))
 

@@ -10,36 +10,27 @@ use denote.Ref.{now}
 use borrow.Author.Needs.{needs}
 use Rattle.table.proofs.part.part_of.Statement.{statement}
 use Rattle.table.proofs.part.part_of.Tie as tie
-use Rattle.table.proofs.part.part_of.Reads as reads
-use Rattle.table.proofs.part.part_of.Lts as lts
 
--- src/part.rt:20:9
 slice-aggregate-result : tie.Need-slice-aggregate-result
 slice-aggregate-result c = search needs
 
--- src/part.rt:20:9
 returns : tie.Need-returns
 returns c =
     let a = c .before .before .args in
     sym (ap (λ (l : List ℕ). take (a .size) l) (drop-of-length-le (now (a .bytes)) (c .before .if1 .taken)) ∙ take-nil (a .size))
 
--- src/part.rt:22:8
 sub-if2 : tie.Need-sub-if2
 sub-if2 c = search needs
 
--- src/part.rt:23:16
 sub-result : tie.Need-sub-result
 sub-result c = search needs
 
--- src/part.rt:23:16
 part-result-start : tie.Need-part-result-start
 part-result-start c = search needs
 
--- src/part.rt:23:16
 part-result-end : tie.Need-part-result-end
 part-result-end c = search needs
 
--- src/part.rt:23:9
 returns-2 : tie.Need-returns-2
 returns-2 c =
     let a = c .before .before .before .args in
@@ -48,23 +39,18 @@ returns-2 c =
     take-all (length (now (a .bytes)) - a .start) l (omega (arith, length-drop (a .start) (now (a .bytes))))
     ∙ sym (take-all (a .size) l (omega (arith, length-drop (a .start) (now (a .bytes)))))
 
--- src/part.rt:25:19
 add-result : tie.Need-add-result
 add-result c = search needs
 
--- src/part.rt:25:5
 sub-result-2 : tie.Need-sub-result-2
 sub-result-2 c = search needs
 
--- src/part.rt:25:5
 part-result-start-2 : tie.Need-part-result-start-2
 part-result-start-2 c = search needs
 
--- src/part.rt:25:5
 part-result-end-2 : tie.Need-part-result-end-2
 part-result-end-2 c = search needs
 
--- src/part.rt:16:1
 returns-3 : tie.Need-returns-3
 returns-3 c =
     let a = c .before .before .before .args in

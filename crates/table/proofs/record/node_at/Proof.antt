@@ -1,9 +1,7 @@
 -- `node_at` meets its contract, field by field.
-use mathlib.Core.Path.{_≡_, sym, ap, _∙_}
-use mathlib.Core.List.{List, []}
-use Prim.Native.Nat.{ℕ, _*_}
+use mathlib.Core.Path.{sym, ap, _∙_}
+use Prim.Native.Nat.{_*_}
 use native.Mathlib.Omega.{arith}
-use lib.ListN.{drop}
 use lib.Seq.{getD-drop}
 use denote.Ref.{now}
 use Rattle.table.specs.Table.{nodeOf}
@@ -11,41 +9,30 @@ use Rattle.table.proofs.Records.{field-first, past}
 use borrow.Author.Needs.{needs}
 use Rattle.table.proofs.record.node_at.Statement.{statement}
 use Rattle.table.proofs.record.node_at.Tie as tie
-use Rattle.table.proofs.record.node_at.Reads as reads
-use Rattle.table.proofs.record.node_at.Lts as lts
-use Rattle.table.proofs.part.byte_at.Reads as byte-at-reads
 
--- src/record.rt:66:9
 returns : tie.Need-returns
 returns c =
     let a = c .before .before .args in
     ap nodeOf (sym (past 3 (a .i) (now (a .section)) (omega arith)))
 
--- src/record.rt:72:14
 mul-at : tie.Need-mul-at
 mul-at c = search needs
 
--- src/record.rt:74:15
 byte-at-requires : tie.Need-byte-at-requires
 byte-at-requires c κs = search needs
 
--- src/record.rt:75:29
 add-byte-at : tie.Need-add-byte-at
 add-byte-at c = search needs
 
--- src/record.rt:75:12
 byte-at-requires-2 : tie.Need-byte-at-requires-2
 byte-at-requires-2 c κs = search needs
 
--- src/record.rt:76:29
 add-byte-at-2 : tie.Need-add-byte-at-2
 add-byte-at-2 c = search needs
 
--- src/record.rt:76:12
 byte-at-requires-3 : tie.Need-byte-at-requires-3
 byte-at-requires-3 c κs = search needs
 
--- src/record.rt:62:1
 returns-2 : tie.Need-returns-2
 returns-2 c =
     let a = c .before .before .before .before .before .args in

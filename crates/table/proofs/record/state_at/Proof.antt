@@ -1,9 +1,7 @@
 -- `state_at` meets its contract, field by field; two bytes make a label.
-use mathlib.Core.Path.{_≡_, sym, ap, ap₂, _∙_}
-use mathlib.Core.List.{List, []}
+use mathlib.Core.Path.{sym, ap, ap₂, _∙_}
 use Prim.Native.Nat.{ℕ, _*_, _+_}
 use native.Mathlib.Omega.{arith}
-use lib.ListN.{drop}
 use lib.Seq.{getD-drop}
 use denote.Ref.{now}
 use Rattle.table.specs.Table.{stateOf}
@@ -11,49 +9,36 @@ use Rattle.table.proofs.Records.{field-first, past}
 use borrow.Author.Needs.{needs}
 use Rattle.table.proofs.record.state_at.Statement.{statement}
 use Rattle.table.proofs.record.state_at.Tie as tie
-use Rattle.table.proofs.record.state_at.Reads as reads
-use Rattle.table.proofs.record.state_at.Lts as lts
-use Rattle.table.proofs.part.byte_at.Reads as byte-at-reads
 
--- src/record.rt:32:9
 returns : tie.Need-returns
 returns c =
     let a = c .before .before .args in
     ap stateOf (sym (past 3 (a .i) (now (a .section)) (omega arith)))
 
--- src/record.rt:37:14
 mul-at : tie.Need-mul-at
 mul-at c = search needs
 
--- src/record.rt:38:32
 add-byte-at : tie.Need-add-byte-at
 add-byte-at c = search needs
 
--- src/record.rt:38:9
 byte-at-requires : tie.Need-byte-at-requires
 byte-at-requires c κs = search needs
 
--- src/record.rt:39:33
 add-byte-at-2 : tie.Need-add-byte-at-2
 add-byte-at-2 c = search needs
 
--- src/record.rt:39:9
 byte-at-requires-2 : tie.Need-byte-at-requires-2
 byte-at-requires-2 c κs = search needs
 
--- src/record.rt:41:18
 byte-at-requires-3 : tie.Need-byte-at-requires-3
 byte-at-requires-3 c κs = search needs
 
--- src/record.rt:42:22
 mul-t7 : tie.Need-mul-t7
 mul-t7 c = omega (arith, c .before .byte-at2 .ensures, c .before .before .before .before .shared-slice-known .given (3 * c .before .before .before .before .before .args .i + 2))
 
--- src/record.rt:42:16
 add-t9 : tie.Need-add-t9
 add-t9 c = omega (arith, c .before .byte-at2 .ensures, c .before .before .byte-at .ensures, c .before .before .before .before .shared-slice-known .given (3 * c .before .before .before .before .before .args .i + 2), c .before .before .before .before .shared-slice-known .given (3 * c .before .before .before .before .before .args .i + 1))
 
--- src/record.rt:28:1
 returns-2 : tie.Need-returns-2
 returns-2 c =
     let a = c .before .before .before .before .before .args in

@@ -1,6 +1,6 @@
 -- `states_part` meets its contract: a count is a byte, so nothing wraps.
-use mathlib.Core.Path.{_≡_, ap, _∙_}
-use Prim.Native.Nat.{ℕ, _*_}
+use mathlib.Core.Path.{ap, _∙_}
+use Prim.Native.Nat.{_*_}
 use native.Mathlib.Omega.{arith}
 use lib.ListN.{take, drop}
 use denote.Ref.{now}
@@ -8,24 +8,16 @@ use Rattle.table.specs.declared.counts.Counts.{Counts}
 use borrow.Author.Needs.{needs}
 use Rattle.table.proofs.section.states_part.Statement.{statement}
 use Rattle.table.proofs.section.states_part.Tie as tie
-use Rattle.table.proofs.section.states_part.Reads as reads
-use Rattle.table.proofs.section.states_part.Lts as lts
-use Rattle.table.proofs.counts.counts_of.Reads as counts-of-reads
-use Rattle.table.proofs.part.part_of.Reads as part-of-reads
 
--- src/section.rt:15:9
 counts-of-requires : tie.Need-counts-of-requires
 counts-of-requires c κs = search needs
 
--- src/section.rt:16:34
 mul-part-of : tie.Need-mul-part-of
 mul-part-of c = omega (arith, ap (λ (k : Counts). k .states) (c .before .counts-of .ensures), c .before .before .shared-slice-known .given 0)
 
--- src/section.rt:16:5
 part-of-requires : tie.Need-part-of-requires
 part-of-requires c κs = search needs
 
--- src/section.rt:12:1
 returns : tie.Need-returns
 returns c =
     let l = now (c .before .before .before .before .args .table) in

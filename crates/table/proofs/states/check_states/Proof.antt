@@ -1,18 +1,14 @@
 -- `check_states` meets its contract. The loop's invariant: the records before i fit, and what was found says whether one of them is initial.
-use mathlib.Core.Bool.{Bool, true, false}
+use mathlib.Core.Bool.{Bool, true, false, _&&_, _||_}
 use mathlib.Core.Logic.{⊎-elim}
 use borrow.Author.Tests.{not-true, not-false}
-use Rattle.table.specs.declared.record.State.{State}
 use Rattle.table.specs.declared.refusal.Refusal.the-variants.{StateRecord, NoInitial}
-use Rattle.table.specs.declared.refusal.Verdict.{Verdict}
 use Rattle.table.specs.Verdict.{require, _then_}
-use Prim.Native.Nat.{ℕ, zero, suc, _+_, _*_, _-_, _≤_, _<_, zero-le}
+use Prim.Native.Nat.{_+_, _-_, _≤_, zero-le}
 use mathlib.Core.Path.{_≡_, refl, sym, ap, _∙_}
-use mathlib.Core.Bool.{_&&_, _||_}
-use mathlib.Core.List.{List}
 use native.Mathlib.Omega.{arith}
 use borrow.Author.Needs.{needs}
-use lib.ListN.{length, drop}
+use lib.ListN.{drop}
 use denote.Ref.{now}
 use Rattle.table.specs.Table.{records, stateOf}
 use Rattle.table.specs.Accept.{all, any, stateFits, isInitial}
@@ -20,10 +16,6 @@ use Rattle.table.proofs.Records.{records-done}
 use Rattle.table.proofs.Scan.{record-all, record-any}
 use Rattle.table.proofs.states.check_states.Statement.{statement}
 use Rattle.table.proofs.states.check_states.Tie as tie
-use Rattle.table.proofs.states.check_states.Reads as reads
-use Rattle.table.proofs.states.check_states.Lts as lts
-use Rattle.table.proofs.record.state_at.Reads as state-at-reads
-use Rattle.table.proofs.states.state_fits.Reads as state-fits-reads
 
 abbrev Inv-loop : tie.InvT-loop
 Inv-loop section n p found₀ i₀ found i =
@@ -34,19 +26,15 @@ Inv-loop section n p found₀ i₀ found i =
 abbrev μ-loop : tie.MeasureT-loop
 μ-loop section n p found₀ i₀ found i = n - i
 
--- src/states.rt:30:5
 loop-holds : tie.Need-loop-holds Inv-loop μ-loop
 loop-holds c = (zero-le, refl, refl)
 
--- src/states.rt:31:13
 state-at-requires : tie.Need-state-at-requires Inv-loop μ-loop
 state-at-requires c κs = search needs
 
--- src/states.rt:32:13
 state-fits-requires : tie.Need-state-fits-requires Inv-loop μ-loop
 state-fits-requires c κs = search needs
 
--- src/states.rt:33:13
 returns : tie.Need-returns Inv-loop μ-loop
 returns c =
     let a = c .before .before .before .before .before .before .args in
@@ -57,15 +45,12 @@ returns c =
     let whole : all (stateFits (a .p)) xs ≡ false = c .before .before .before .before .loop .inv .1 ∙ record-all stateOf 3 (a .n) (now (a .section)) i (c .before .before .before .loop-test .taken) x (c .before .before .state-at .ensures) (stateFits (a .p)) ∙ ap (λ (b : Bool). b && all (stateFits (a .p)) (drop (i + 1) xs)) fails in
     ap (λ (b : Bool). require StateRecord b then require NoInitial (any isInitial xs)) (sym whole)
 
--- src/states.rt:36:9
 add-i : tie.Need-add-i Inv-loop μ-loop
 add-i c = search needs
 
--- src/states.rt:30:5
 loop-less : tie.Need-loop-less Inv-loop μ-loop
 loop-less c = omega arith
 
--- src/states.rt:30:5
 loop-again : tie.Need-loop-again Inv-loop μ-loop
 loop-again c =
     let a = c .before .before .before .before .before .before .before .args in
@@ -88,7 +73,6 @@ loop-again c =
     in
     (omega arith, c .before .before .before .before .before .loop .inv .1 ∙ record-all stateOf 3 (a .n) (now (a .section)) i h x here (stateFits (a .p)) ∙ ap (λ (b : Bool). b && all (stateFits (a .p)) (drop (i + 1) xs)) fits, found)
 
--- src/states.rt:24:1
 returns-2 : tie.Need-returns-2 Inv-loop μ-loop
 unfolding all any
 returns-2 c =
@@ -100,7 +84,6 @@ returns-2 c =
     let found : any isInitial xs ≡ true = c .before .before .loop .inv .2 ∙ ap (λ (b : Bool). b || any isInitial (drop i xs)) (c .if3 .taken) in
     sym (ap (λ (b : Bool). require StateRecord b then require NoInitial (any isInitial xs)) fit ∙ ap (require NoInitial) found)
 
--- src/states.rt:24:1
 returns-3 : tie.Need-returns-3 Inv-loop μ-loop
 unfolding all any
 returns-3 c =

@@ -5,20 +5,15 @@ use Rattle.table.proofs.Numbers.{shifted-out}
 use borrow.Author.Needs.{needs}
 use Rattle.table.proofs.states.state_fits.Statement.{statement}
 use Rattle.table.proofs.states.state_fits.Tie as tie
-use Rattle.table.proofs.states.state_fits.Reads as reads
-use Rattle.table.proofs.states.state_fits.Lts as lts
 
--- src/states.rt:18:9
 returns : tie.Need-returns
 returns c =
     let a = c .before .before .args in
     simp (lt-leb (a .s .initial) 1 (omega arith))
 
--- src/states.rt:20:5
 shr-result : tie.Need-shr-result
 shr-result c = search needs
 
--- src/states.rt:13:1
 returns-2 : tie.Need-returns-2
 returns-2 c =
     let a = c .before .before .before .args in

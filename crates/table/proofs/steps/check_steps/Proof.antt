@@ -1,36 +1,28 @@
 -- `check_steps` meets its contract. The loop's invariant: the steps before j have their bits, and `repeated` says whether one of them repeats another.
 use lib.Seq.{take-all}
-use lib.ListN.{getD, set, length-set}
-use Rattle.sets.specs.Member.{member, setOf}
-use Rattle.table.proofs.Records.{records-length}
-use Prim.Native.Nat.{ℕ, zero, suc, _+_, _*_, _-_, _≤_, _<_, zero-le}
-use mathlib.Core.Path.{_≡_, refl, sym, ap, subst, _∙_}
+use lib.ListN.{getD, set, take, drop}
+use Rattle.sets.specs.Member.{member}
+use Rattle.table.proofs.Records.{records-length, records-done}
+use Prim.Native.Nat.{ℕ, _+_, _-_, _≤_, _<_, zero-le}
+use mathlib.Core.Path.{_≡_, refl, sym, ap, _∙_}
 use mathlib.Core.Bool.{Bool, true, false, not, _&&_, _||_}
 use mathlib.Core.List.{List, [], _∷_, _++_}
 use mathlib.Core.Logic.{⊎-elim}
 use native.Mathlib.Omega.{arith}
 use borrow.Author.Needs.{needs}
 use borrow.Author.Tests.{not-true, not-false}
-use lib.ListN.{length, take, drop}
 use denote.Ref.{now}
 use Rattle.table.specs.declared.record.Step.{Step}
 use Rattle.table.specs.declared.refusal.Refusal.the-variants.{StepEnd, RepeatedStep}
 use Rattle.table.specs.Verdict.{require, _then_}
 use Rattle.table.specs.Table.{records, stepOf}
-use Rattle.table.specs.Accept.{all, any, stepFits, distinct}
+use Rattle.table.specs.Accept.{all, stepFits, distinct}
 use Rattle.table.proofs.Accepted.{step-within}
-use Rattle.table.proofs.Records.{records-done}
 use Rattle.table.proofs.Scan.{record-all, record-take}
 use Rattle.table.proofs.Rows.{rows-none, rows-more, repeated-more}
 use Rattle.table.specs.Rows.{Rows}
 use Rattle.table.proofs.steps.check_steps.Statement.{statement}
 use Rattle.table.proofs.steps.check_steps.Tie as tie
-use Rattle.table.proofs.steps.check_steps.Reads as reads
-use Rattle.table.proofs.steps.check_steps.Lts as lts
-use Rattle.sets.proofs.contains.Reads as contains-reads
-use Rattle.sets.proofs.insert.Reads as insert-reads
-use Rattle.table.proofs.record.step_at.Reads as step-at-reads
-use Rattle.table.proofs.steps.step_fits.Reads as step-fits-reads
 
 -- what a step that fits says of its ends
 ends : (n : ℕ) (x : Step) (b : Bool) → n ≤ 32 → b ≡ stepFits n x → b ≡ true → (x .from < 32) × (x .to < 32)
@@ -48,20 +40,16 @@ Inv-loop section e n given₀ repeated₀ j₀ given repeated j =
 abbrev μ-loop : tie.MeasureT-loop
 μ-loop section e n given₀ repeated₀ j₀ given repeated j = e - j
 
--- src/steps.rt:34:5
 loop-holds : tie.Need-loop-holds Inv-loop μ-loop
 unfolding distinct
 loop-holds c = (zero-le, refl, rows-none, refl)
 
--- src/steps.rt:35:13
 step-at-requires : tie.Need-step-at-requires Inv-loop μ-loop
 step-at-requires c κs = search needs
 
--- src/steps.rt:36:13
 step-fits-requires : tie.Need-step-fits-requires Inv-loop μ-loop
 step-fits-requires c κs = search needs
 
--- src/steps.rt:37:13
 returns : tie.Need-returns Inv-loop μ-loop
 returns c =
     let a = c .before .before .before .before .before .before .args in
@@ -72,39 +60,30 @@ returns c =
     let whole : all (stepFits (a .n)) xs ≡ false = c .before .before .before .before .loop .inv .1 ∙ record-all stepOf 2 (a .e) (now (a .section)) j (c .before .before .before .loop-test .taken) x (c .before .before .step-at .ensures) (stepFits (a .n)) ∙ ap (λ (b : Bool). b && all (stepFits (a .n)) (drop (j + 1) xs)) fails in
     ap (λ (b : Bool). require StepEnd b then require RepeatedStep (distinct xs)) (sym whole)
 
--- src/steps.rt:41:19
 mul-row : tie.Need-mul-row Inv-loop μ-loop
 mul-row c = let h = ends (c .before .before .before .before .before .before .args .n) (c .before .before .step-at .result) (c .before .step-fits .result) (c .before .before .before .before .before .before .pre) (c .before .step-fits .ensures) (not-false _ (c .if1 .left)) in omega (arith, h .0)
 
--- src/steps.rt:41:19
 array-read-row : tie.Need-array-read-row Inv-loop μ-loop
 array-read-row c = ends (c .before .before .before .before .before .before .args .n) (c .before .before .step-at .result) (c .before .step-fits .result) (c .before .before .before .before .before .before .pre) (c .before .step-fits .ensures) (not-false _ (c .if1 .left)) .0
 
--- src/steps.rt:42:32
 contains-requires : tie.Need-contains-requires Inv-loop μ-loop
 contains-requires c κs = search needs
 
--- src/steps.rt:43:23
 insert-requires : tie.Need-insert-requires Inv-loop μ-loop
 insert-requires c κs = search needs
 
--- src/steps.rt:43:9
 mul-given : tie.Need-mul-given Inv-loop μ-loop
 mul-given c = let h = ends (c .before .before .before .before .before .before .before .before .args .n) (c .before .before .before .before .step-at .result) (c .before .before .before .step-fits .result) (c .before .before .before .before .before .before .before .before .pre) (c .before .before .before .step-fits .ensures) (not-false _ (c .before .before .if1 .left)) in omega (arith, h .0)
 
--- src/steps.rt:43:9
 array-write-given : tie.Need-array-write-given Inv-loop μ-loop
 array-write-given c = ends (c .before .before .before .before .before .before .before .before .args .n) (c .before .before .before .before .step-at .result) (c .before .before .before .step-fits .result) (c .before .before .before .before .before .before .before .before .pre) (c .before .before .before .step-fits .ensures) (not-false _ (c .before .before .if1 .left)) .0
 
--- src/steps.rt:44:9
 add-j : tie.Need-add-j Inv-loop μ-loop
 add-j c = search needs
 
--- src/steps.rt:34:5
 loop-less : tie.Need-loop-less Inv-loop μ-loop
 loop-less c = omega arith
 
--- src/steps.rt:34:5
 loop-again : tie.Need-loop-again Inv-loop μ-loop
 loop-again c =
     let a = c .before .before .before .before .before .before .before .before .args in
@@ -134,7 +113,6 @@ loop-again c =
       again,
     )
 
--- src/steps.rt:27:1
 returns-2 : tie.Need-returns-2 Inv-loop μ-loop
 unfolding all
 returns-2 c =
@@ -148,7 +126,6 @@ returns-2 c =
     let rep : distinct xs ≡ false = not-true _ (sym (c .before .before .loop .inv .3 ∙ ap (λ (ys : List Step). not (distinct ys)) all-of) ∙ c .if3 .taken) in
     sym (ap (λ (b : Bool). require StepEnd b then require RepeatedStep (distinct xs)) fit ∙ ap (require RepeatedStep) rep)
 
--- src/steps.rt:27:1
 returns-3 : tie.Need-returns-3 Inv-loop μ-loop
 unfolding all
 returns-3 c =

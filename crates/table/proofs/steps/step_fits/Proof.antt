@@ -3,16 +3,12 @@ use native.Mathlib.Omega.{arith}
 use borrow.Author.Tests.{lt-ltb, le-ltb}
 use Rattle.table.proofs.steps.step_fits.Statement.{statement}
 use Rattle.table.proofs.steps.step_fits.Tie as tie
-use Rattle.table.proofs.steps.step_fits.Reads as reads
-use Rattle.table.proofs.steps.step_fits.Lts as lts
 
--- src/steps.rt:20:9
 returns : tie.Need-returns
 returns c =
     let a = c .before .before .args in
     simp (le-ltb (a .x .from) (a .n) (omega arith))
 
--- src/steps.rt:16:1
 returns-2 : tie.Need-returns-2
 returns-2 c =
     let a = c .before .before .before .args in

@@ -1,0 +1,41 @@
+// The face of the fitter to C: every call answers a number, and leaves in every lent buffer what its contract says.
+use label::Holding;
+ghost use mathlib.Core.Path.{_≡_};
+ghost use lib.ListN.{length};
+ghost use Rattle.table.specs.Verdict.{verdictNumber};
+ghost use Rattle.ctl.specs.Tests.{judgeVerdict};
+ghost use Rattle.label.specs.Calls.{labelVerdict, labelBuffer, holdingAnswer, holdingBuffer, holdingNumber};
+ghost use Rattle.fitter.specs.Exports.{holdingCount};
+
+// 0 where the list is a repair of the table, else the refusal's number.
+#[no_mangle]
+pub extern "C" fn fitter_judge(table: &[u8], list: &[u8]) -> u32
+    ensures { λ r. ⌜ r ≡ verdictNumber (judgeVerdict (now (table .entry)) (now (list .entry))) ⌝ }
+{
+    table::verdict_number(judge::judge_list(table, list))
+}
+
+// 0 and an entry for each node, or the refusal's number and nothing written.
+#[no_mangle]
+pub extern "C" fn fitter_label(table: &[u8], list: &[u8], out: &mut [u32]) -> u32
+    ensures { λ r. ⌜ r ≡ verdictNumber (labelVerdict (now (table .entry)) (now (list .entry)) (length (now (out .entry)))) ⌝ }
+    ensures { λ _. ⌜ now (out .exit) ≡ labelBuffer (now (table .entry)) (now (list .entry)) (now (out .entry)) ⌝ }
+{
+    table::verdict_number(label::label_nodes(table, list, out))
+}
+
+// 0, the states of the root's set and their count, or the refusal's number and nothing written.
+#[no_mangle]
+pub extern "C" fn fitter_holding(table: &[u8], list: &[u8], out: &mut [u8], count: &mut u32) -> u32
+    ensures { λ r. ⌜ r ≡ holdingNumber (holdingAnswer (now (table .entry)) (now (list .entry)) (length (now (out .entry)))) ⌝ }
+    ensures { λ _. ⌜ now (out .exit) ≡ holdingBuffer (now (table .entry)) (now (list .entry)) (now (out .entry)) ⌝ }
+    ensures { λ _. ⌜ now (count .exit) ≡ holdingCount (holdingAnswer (now (table .entry)) (now (list .entry)) (length (now (out .entry)))) (now (count .entry)) ⌝ }
+{
+    match label::holding_states(table, list, out) {
+        Holding::Count(k) => {
+            *count = k;
+            0
+        }
+        Holding::Refuse(refusal) => table::refusal_number(refusal),
+    }
+}

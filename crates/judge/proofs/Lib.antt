@@ -1,0 +1,3 @@
+pub mod Starts
+pub mod Order
+pub mod Exact

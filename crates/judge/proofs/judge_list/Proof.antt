@@ -1,0 +1,131 @@
+-- `judge_list` meets its contract: each way out has decided the tests up to its own.
+use Prim.Native.Nat.{ℕ}
+use mathlib.Core.Path.{_≡_, sym, ap, _∙_}
+use mathlib.Core.Bool.{Bool, true, false, not, _&&_}
+use mathlib.Core.List.{List}
+use borrow.Author.Tests.{eq-eqb, ne-eqb}
+use lib.Dec.{eqb}
+use denote.Ref.{now}
+use Rattle.sets.specs.Member.{member, setOf}
+use Rattle.sets.proofs.SetOf.{setOf-cong, member-setOf-below}
+use Rattle.table.specs.declared.refusal.Refusal.the-variants.{NoInitialKept, RootFails}
+use Rattle.table.specs.declared.refusal.Verdict.the-variants.{Accepted}
+use Rattle.table.specs.Verdict.{require, _then_}
+use Rattle.table.specs.Table.{tableOf, stateAt}
+use Rattle.table.proofs.Accepted.{accepted}
+use Rattle.table.proofs.Verdicts.{then-refused, then-next}
+use Rattle.ctl.specs.Rule.{rootIndex}
+use Rattle.ctl.specs.Labels.{isKept, marked}
+use Rattle.ctl.specs.Tests.{isInitialKept, keepsInitial, rootMarked, judgeVerdict}
+use Rattle.label.specs.declared.analysis.Analysis.{Analysis}
+use Rattle.label.specs.declared.analysis.Room.the-variants.{Any}
+use Rattle.label.specs.Analysis.{analysisOf, analysisVerdict}
+use Rattle.label.proofs.Order.{at-verdict, at-initial, at-kept, at-root, table-accepted}
+use Rattle.judge.proofs.Starts.{keeps-word, root-word}
+use Rattle.judge.proofs.Order.{judge-order}
+use borrow.Author.Needs.{needs}
+use Rattle.judge.proofs.judge_list.Statement.{statement}
+use Rattle.judge.proofs.judge_list.Tie as tie
+
+module _ (table list : List ℕ) (a : Analysis) (e : a ≡ analysisOf Any table list) where
+  verdict-is : a .verdict ≡ analysisVerdict Any table list
+  verdict-is = ap (λ (x : Analysis). x .verdict) e ∙ at-verdict (analysisVerdict Any table list) (tableOf table) list
+
+  module _ (ok : a .verdict ≡ Accepted) where
+    abbrev passed : analysisVerdict Any table list ≡ Accepted
+    passed = sym verdict-is ∙ ok
+
+    -- what is left to test
+    left : judgeVerdict table list ≡ require NoInitialKept (keepsInitial (tableOf table) list) then require RootFails (rootMarked (tableOf table) list)
+    left = judge-order table list ∙ then-next (analysisVerdict Any table list) _ passed
+
+    starts-are : (w : ℕ) → w ≡ setOf 32 (λ t. member (a .initial) t && member (a .kept) t) → w ≡ setOf 32 (isInitialKept (tableOf table) list)
+    starts-are w f =
+        f ∙ setOf-cong 32 _ _ (λ s h. λ i.
+        (ap (λ (m : ℕ). member m s) (ap (λ (x : Analysis). x .initial) e ∙ at-initial (analysisVerdict Any table list) (tableOf table) list passed)
+        ∙ member-setOf-below 32 (λ s. eqb (stateAt (tableOf table) s .initial) 1) s h) i
+        && (ap (λ (m : ℕ). member m s) (ap (λ (x : Analysis). x .kept) e ∙ at-kept (analysisVerdict Any table list) (tableOf table) list passed)
+        ∙ member-setOf-below 32 (isKept (tableOf table) list) s h) i)
+
+    root-is : a .root ≡ setOf 32 (marked (tableOf table) list (rootIndex (tableOf table)))
+    root-is = ap (λ (x : Analysis). x .root) e ∙ at-root (analysisVerdict Any table list) (tableOf table) list passed
+
+    keeps : (w : ℕ) → w ≡ setOf 32 (λ t. member (a .initial) t && member (a .kept) t) → not (eqb w 0) ≡ keepsInitial (tableOf table) list
+    keeps w f = keeps-word (tableOf table) (accepted table (table-accepted Any table list passed) .table) list w (starts-are w f)
+
+    root-marks : (w : ℕ) → w ≡ setOf 32 (λ t. member (a .initial) t && member (a .kept) t) → (x : ℕ) → x ≡ setOf 32 (λ t. member w t && not (member (a .root) t))
+        → eqb x 0 ≡ rootMarked (tableOf table) list
+    root-marks w f x g = root-word (tableOf table) (accepted table (table-accepted Any table list passed) .table) list w (a .root) x (starts-are w f) root-is g
+
+analyse-requires : tie.Need-analyse-requires
+analyse-requires c κs = search needs
+
+enum-told : tie.Need-enum-told
+enum-told c = search needs
+
+returns : tie.Need-returns
+returns c =
+    let t = now (c .before .before .before .before .before .args .table) in
+    let l = now (c .before .before .before .before .before .args .list) in
+    let v = verdict-is t l (c .before .before .analyse .result) (c .before .before .analyse .ensures) in
+    let told = c .enum-told .given in
+    v ∙ sym (judge-order t l ∙ then-refused (analysisVerdict Any t l) _ (told .0 .0) (sym v ∙ told .1))
+
+enum-told-2 : tie.Need-enum-told-2
+enum-told-2 c = search needs
+
+intersection-requires : tie.Need-intersection-requires
+intersection-requires c κs = search needs
+
+returns-2 : tie.Need-returns-2
+returns-2 c =
+    let t = now (c .before .before .before .before .before .before .before .args .table) in
+    let l = now (c .before .before .before .before .before .before .before .args .list) in
+    let A = c .before .before .before .before .analyse .result in
+    let E = c .before .before .before .before .analyse .ensures in
+    let ok = c .before .before .enum-told2 .given .1 in
+    let none : keepsInitial (tableOf t) l ≡ false = sym (keeps t l A E ok (c .before .intersection .result) (c .before .intersection .ensures)) ∙ ap not (eq-eqb (c .before .intersection .result) 0 (c .if1 .taken)) in
+    sym (left t l A E ok ∙ ap (λ (b : Bool). require NoInitialKept b then require RootFails (rootMarked (tableOf t) l)) none)
+
+minus-requires : tie.Need-minus-requires
+minus-requires c κs = search needs
+
+returns-3 : tie.Need-returns-3
+returns-3 c =
+    let t = now (c .before .before .before .before .before .before .before .before .before .args .table) in
+    let l = now (c .before .before .before .before .before .before .before .before .before .args .list) in
+    let A = c .before .before .before .before .before .before .analyse .result in
+    let E = c .before .before .before .before .before .before .analyse .ensures in
+    let ok = c .before .before .before .before .enum-told2 .given .1 in
+    let w = c .before .before .before .intersection .result in
+    let f = c .before .before .before .intersection .ensures in
+    let some : keepsInitial (tableOf t) l ≡ true = sym (keeps t l A E ok w f) ∙ ap not (ne-eqb w 0 (c .before .before .if1 .left)) in
+    let fails : rootMarked (tableOf t) l ≡ false = sym (root-marks t l A E ok w f (c .before .minus .result) (c .before .minus .ensures)) ∙ ne-eqb (c .before .minus .result) 0 (c .if2 .taken) in
+    sym (left t l A E ok ∙ (λ j. require NoInitialKept (some j) then require RootFails (fails j)))
+
+returns-4 : tie.Need-returns-4
+returns-4 c =
+    let t = now (c .before .before .before .before .before .before .before .before .before .args .table) in
+    let l = now (c .before .before .before .before .before .before .before .before .before .args .list) in
+    let A = c .before .before .before .before .before .before .analyse .result in
+    let E = c .before .before .before .before .before .before .analyse .ensures in
+    let ok = c .before .before .before .before .enum-told2 .given .1 in
+    let w = c .before .before .before .intersection .result in
+    let f = c .before .before .before .intersection .ensures in
+    let some : keepsInitial (tableOf t) l ≡ true = sym (keeps t l A E ok w f) ∙ ap not (ne-eqb w 0 (c .before .before .if1 .left)) in
+    let holds : rootMarked (tableOf t) l ≡ true = sym (root-marks t l A E ok w f (c .before .minus .result) (c .before .minus .ensures)) ∙ eq-eqb (c .before .minus .result) 0 (c .if2 .left) in
+    ok ∙ sym (left t l A E ok ∙ (λ j. require NoInitialKept (some j) then require RootFails (holds j)))
+
+pub judge-list-spec : {M : Type 1} → statement M
+judge-list-spec =
+    tie.close
+    (tie.spec
+    analyse-requires
+    enum-told
+    returns
+    enum-told-2
+    intersection-requires
+    returns-2
+    minus-requires
+    returns-3
+    returns-4)

@@ -1,0 +1,13 @@
+pub mod Order
+pub mod KeptSteps
+pub mod ReadNode
+pub mod Marks
+pub mod Next
+pub mod Levels
+pub mod Kept
+pub mod PassWords
+pub mod Over
+pub mod Select
+pub mod Lowest
+pub mod Held
+pub mod Exact

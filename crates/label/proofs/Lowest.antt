@@ -1,0 +1,69 @@
+-- The states of a set in ascending order are its lowest member, and then those of the rest.
+use Prim.Native.Nat.{ℕ, _^_, _≤_, _<_}
+use mathlib.Core.Path.{_≡_, refl, sym, ap, _∙_}
+use mathlib.Core.Bool.{Bool, true, false, cond, not, _&&_, false≢true, and-true}
+use mathlib.Core.Logic.{⊎-elim}
+use mathlib.Core.List.{List, [], _∷_, List·Memᴰ, List·Memᴰ·head, List·Memᴰ·tail, List·Memᴰ·not-nil, List·Memᴰ·cases-cons}
+use native.Mathlib.Omega.{arith}
+use borrow.Author.Tests.{eq-eqb, ne-eqb}
+use lib.Dec.{eqb}
+use Rattle.sets.specs.Member.{member, setOf, lowestOf}
+use Rattle.sets.proofs.SetOf.{member-setOf-below, some-member, lowestOf-has, lowestOf-least}
+use Rattle.sets.proofs.Laws.{member-zero}
+use Rattle.ctl.specs.Levels.{tabulate}
+use Rattle.ctl.proofs.Tabulate.{member-tabulate, tabulate-member}
+use Rattle.label.specs.Calls.{select, statesWith}
+use Rattle.label.proofs.Select.{Ascending, tabulate-ascending}
+
+-- tests that agree on a list select the same
+pub select-cong : (p q : ℕ → Bool) (ks : List ℕ) → ((k : ℕ) → List·Memᴰ k ks → p k ≡ q k) → select p ks ≡ select q ks
+unfolding select
+select-cong p q [] e = refl
+select-cong p q (k ∷ ks) e =
+    (λ i. cond (e k (List·Memᴰ·head refl) i) (k ∷ select p ks) (select p ks))
+    ∙ ap (λ (xs : List ℕ). cond (q k) (k ∷ xs) xs) (select-cong p q ks (λ j m. e j (List·Memᴰ·tail m)))
+
+-- in an ascending list, the least number that has p is selected first
+select-least : (p : ℕ → Bool) (ks : List ℕ) → Ascending ks → (s : ℕ) → List·Memᴰ s ks → p s ≡ true → ((k : ℕ) → p k ≡ true → s ≤ k)
+    → select p ks ≡ s ∷ select (λ k. p k && not (eqb k s)) ks
+unfolding select
+select-least p [] up s m has least = absurd (List·Memᴰ·not-nil m)
+select-least p (x ∷ ks) up s m has least = go (p x) refl (λ t. select-least p ks (up .1) s t has least)
+  where
+    rest : ¬ (s ≡ x) → List·Memᴰ s ks
+    rest d = ⊎-elim (λ e. absurd (d e)) (λ t. t) (List·Memᴰ·cases-cons m)
+
+    go : (b : Bool) → p x ≡ b → (List·Memᴰ s ks → select p ks ≡ s ∷ select (λ k. p k && not (eqb k s)) ks)
+        → cond b (x ∷ select p ks) (select p ks)
+        ≡ s ∷ cond (b && not (eqb x s)) (x ∷ select (λ k. p k && not (eqb k s)) ks) (select (λ k. p k && not (eqb k s)) ks)
+    go true e later =
+        let same : s ≡ x = ⊎-elim (λ q. q) (λ t. absurd (let l = up .0 s t in let g = least x e in omega arith)) (List·Memᴰ·cases-cons m) in
+        (λ i. sym same i ∷ select-cong p (λ k. p k && not (eqb k s)) ks
+        (λ k t. let l = up .0 k t in sym (ap (λ (b : Bool). p k && not b) (ne-eqb k s (omega arith)) ∙ and-true (p k))) i)
+        ∙ ap (λ (b : Bool). s ∷ cond (not b) (x ∷ select (λ k. p k && not (eqb k s)) ks) (select (λ k. p k && not (eqb k s)) ks)) (sym (eq-eqb x s (sym same)))
+    go false e later = later (rest (λ q. false≢true (sym e ∙ ap p (sym q) ∙ has)))
+
+-- the lowest member of a set, and then the states of the set without it
+pub lowest-first : (set : ℕ) → lowestOf 32 (member set) < 32
+    → statesWith (member set) ≡ lowestOf 32 (member set) ∷ statesWith (member (setOf 32 (λ t. member set t && not (eqb t (lowestOf 32 (member set))))))
+lowest-first set h =
+    let s = lowestOf 32 (member set) in
+    select-least (member set) (tabulate 32 (λ k. k)) (tabulate-ascending 32 (λ k. k) (λ i j l. l)) s (member-tabulate 32 (λ k. k) s h) (lowestOf-has 32 (member set) h) (lowestOf-least 32 (member set))
+    ∙ ap (λ (xs : List ℕ). s ∷ xs) (select-cong _ _ (tabulate 32 (λ k. k))
+    (λ k m. let r = tabulate-member 32 (λ k. k) m in sym (member-setOf-below 32 (λ t. member set t && not (eqb t s)) k (rw (r .2) (r .1)))))
+
+-- a set that is not empty has a lowest member below 32
+pub lowest-below : (set : ℕ) → set < 2 ^ 32 → ¬ (set ≡ 0) → lowestOf 32 (member set) < 32
+lowest-below set small d =
+    let m = some-member 32 set small d in
+    let l = lowestOf-least 32 (member set) (m .0) (m .2) in
+    omega (arith, m .1, l)
+
+select-none : (p : ℕ → Bool) (ks : List ℕ) → ((k : ℕ) → p k ≡ false) → select p ks ≡ []
+unfolding select
+select-none p [] e = refl
+select-none p (k ∷ ks) e = ap (λ (b : Bool). cond b (k ∷ select p ks) (select p ks)) (e k) ∙ select-none p ks e
+
+-- the empty set has no states
+pub no-states : statesWith (member 0) ≡ []
+no-states = select-none (member 0) (tabulate 32 (λ k. k)) member-zero

@@ -1,0 +1,218 @@
+-- `node_states` meets its contract, kind by kind.
+use Prim.Native.Nat.{ℕ, suc, _≤_, zero-le}
+use mathlib.Core.Path.{_≡_, sym, ap, _∙_}
+use mathlib.Core.Bool.{false}
+use native.Mathlib.Decide.{ℕ-discrete}
+use native.Mathlib.Omega.{arith}
+use lib.Bits.{bitAnd}
+use lib.ListN.{getD, List·getD-eq-default}
+use denote.Ref.{now}
+use Rattle.table.specs.declared.record.Node.{Node}
+use Rattle.ctl.specs.Rule.{constant, operators, operatorOf}
+use Rattle.label.specs.Words.{nodeWord}
+use mathlib.Core.Logic.{_⊎_, inl, inr}
+use borrow.Author.Needs.{needs}
+use Rattle.label.proofs.pass.node_states.Statement.{statement}
+use Rattle.label.proofs.pass.node_states.Tie as tie
+
+-- the operator of a node of a known kind
+of-kind : (x : Node) (k : ℕ) → x .kind ≡ k → operatorOf x ≡ getD (operators (x .a) (x .b)) k (constant false)
+of-kind x k e = ap (λ (i : ℕ). getD (operators (x .a) (x .b)) i (constant false)) e
+
+-- a number from m on that is not m is past it
+past : (m k : ℕ) → m ≤ k → ¬ (k ≡ m) → suc m ≤ k
+past m k h d = omega (arith, d)
+
+-- kind 0, and every kind past the last, is the constant false
+other-kind : (x : Node) → (x .kind ≡ 0) ⊎ (10 ≤ x .kind) → operatorOf x ≡ constant false
+other-kind x (inl e) = of-kind x 0 e
+other-kind x (inr h) = List·getD-eq-default (operators (x .a) (x .b)) (constant false) {n = x .kind} h
+
+labelled-states-requires : tie.Need-labelled-states-requires
+labelled-states-requires c κs = search needs
+
+mul-result : tie.Need-mul-result
+mul-result c = search needs
+
+array-read-result : tie.Need-array-read-result
+array-read-result c = search needs
+
+mul-result-2 : tie.Need-mul-result-2
+mul-result-2 c = search needs
+
+array-read-result-2 : tie.Need-array-read-result-2
+array-read-result-2 c = search needs
+
+mul-result-3 : tie.Need-mul-result-3
+mul-result-3 c = search needs
+
+array-read-result-3 : tie.Need-array-read-result-3
+array-read-result-3 c = search needs
+
+mul-result-4 : tie.Need-mul-result-4
+mul-result-4 c = search needs
+
+array-read-result-4 : tie.Need-array-read-result-4
+array-read-result-4 c = search needs
+
+mul-result-5 : tie.Need-mul-result-5
+mul-result-5 c = search needs
+
+array-read-result-5 : tie.Need-array-read-result-5
+array-read-result-5 c = search needs
+
+mul-next-states : tie.Need-mul-next-states
+mul-next-states c = search needs
+
+array-read-next-states : tie.Need-array-read-next-states
+array-read-next-states c = search needs
+
+next-states-requires : tie.Need-next-states-requires
+next-states-requires c κs = search needs
+
+mul-next-states-2 : tie.Need-mul-next-states-2
+mul-next-states-2 c = search needs
+
+array-read-next-states-2 : tie.Need-array-read-next-states-2
+array-read-next-states-2 c = search needs
+
+next-states-requires-2 : tie.Need-next-states-requires-2
+next-states-requires-2 c κs = search needs
+
+mul-release-states : tie.Need-mul-release-states
+mul-release-states c = search needs
+
+array-read-release-states : tie.Need-array-read-release-states
+array-read-release-states c = search needs
+
+mul-release-states-2 : tie.Need-mul-release-states-2
+mul-release-states-2 c = search needs
+
+array-read-release-states-2 : tie.Need-array-read-release-states-2
+array-read-release-states-2 c = search needs
+
+release-states-requires : tie.Need-release-states-requires
+release-states-requires c κs = search needs
+
+mul-release-states-3 : tie.Need-mul-release-states-3
+mul-release-states-3 c = search needs
+
+array-read-release-states-3 : tie.Need-array-read-release-states-3
+array-read-release-states-3 c = search needs
+
+mul-release-states-4 : tie.Need-mul-release-states-4
+mul-release-states-4 c = search needs
+
+array-read-release-states-4 : tie.Need-array-read-release-states-4
+array-read-release-states-4 c = search needs
+
+release-states-requires-2 : tie.Need-release-states-requires-2
+release-states-requires-2 c κs = search needs
+
+returns : tie.Need-returns
+unfolding nodeWord
+returns c =
+    let a = c .before .before .args in
+    sym (ap (nodeWord (a .rows) (a .kept) (a .n) (now (a .states)) (a .t2)) (of-kind (a .x) 1 (c .match .keys1)))
+
+returns-2 : tie.Need-returns-2
+unfolding nodeWord
+returns-2 c =
+    let a = c .before .before .before .args in
+    ap (bitAnd (a .kept)) (c .labelled-states .ensures) ∙ sym (ap (nodeWord (a .rows) (a .kept) (a .n) (now (a .states)) (a .t2)) (of-kind (a .x) 2 (c .before .match .keys2)))
+
+returns-3 : tie.Need-returns-3
+unfolding nodeWord
+returns-3 c =
+    let a = c .before .before .args in
+    sym (ap (nodeWord (a .rows) (a .kept) (a .n) (now (a .states)) (a .t2)) (of-kind (a .x) 3 (c .match .keys3)))
+
+returns-4 : tie.Need-returns-4
+unfolding nodeWord
+returns-4 c =
+    let a = c .before .before .args in
+    sym (ap (nodeWord (a .rows) (a .kept) (a .n) (now (a .states)) (a .t2)) (of-kind (a .x) 4 (c .match .keys4)))
+
+returns-5 : tie.Need-returns-5
+unfolding nodeWord
+returns-5 c =
+    let a = c .before .before .args in
+    sym (ap (nodeWord (a .rows) (a .kept) (a .n) (now (a .states)) (a .t2)) (of-kind (a .x) 5 (c .match .keys5)))
+
+returns-6 : tie.Need-returns-6
+unfolding nodeWord
+returns-6 c =
+    let a = c .before .before .before .args in
+    c .next-states .ensures ∙ sym (ap (nodeWord (a .rows) (a .kept) (a .n) (now (a .states)) (a .t2)) (of-kind (a .x) 6 (c .before .match .keys6)))
+
+returns-7 : tie.Need-returns-7
+unfolding nodeWord
+returns-7 c =
+    let a = c .before .before .before .args in
+    c .next-states2 .ensures ∙ sym (ap (nodeWord (a .rows) (a .kept) (a .n) (now (a .states)) (a .t2)) (of-kind (a .x) 7 (c .before .match .keys7)))
+
+returns-8 : tie.Need-returns-8
+unfolding nodeWord
+returns-8 c =
+    let a = c .before .before .before .args in
+    c .release-states .ensures ∙ sym (ap (nodeWord (a .rows) (a .kept) (a .n) (now (a .states)) (a .t2)) (of-kind (a .x) 8 (c .before .match .keys8)))
+
+returns-9 : tie.Need-returns-9
+unfolding nodeWord
+returns-9 c =
+    let a = c .before .before .before .args in
+    c .release-states2 .ensures ∙ sym (ap (nodeWord (a .rows) (a .kept) (a .n) (now (a .states)) (a .t2)) (of-kind (a .x) 9 (c .before .match .keys9)))
+
+returns-10 : tie.Need-returns-10
+unfolding nodeWord
+returns-10 c =
+    let a = c .before .before .args in
+    let r = c .match .rest in
+    let split : (a .x .kind ≡ 0) ⊎ (10 ≤ a .x .kind) =
+    elim (ℕ-discrete (a .x .kind) 0) [
+      | yes e ↦ inl e
+      | no d ↦ inr (past 9 _ (past 8 _ (past 7 _ (past 6 _ (past 5 _ (past 4 _ (past 3 _ (past 2 _ (past 1 _ (past 0 _ zero-le d) (r .0 .0 .0 .0 .0 .0 .0 .0 .1)) (r .0 .0 .0 .0 .0 .0 .0 .1)) (r .0 .0 .0 .0 .0 .0 .1)) (r .0 .0 .0 .0 .0 .1)) (r .0 .0 .0 .0 .1)) (r .0 .0 .0 .1)) (r .0 .0 .1)) (r .0 .1)) (r .1))
+    ] in
+    sym (ap (nodeWord (a .rows) (a .kept) (a .n) (now (a .states)) (a .t2)) (other-kind (a .x) split))
+
+pub node-states-spec : {M : Type 1} → statement M
+node-states-spec =
+    tie.close
+    (tie.spec
+    labelled-states-requires
+    mul-result
+    array-read-result
+    mul-result-2
+    array-read-result-2
+    mul-result-3
+    array-read-result-3
+    mul-result-4
+    array-read-result-4
+    mul-result-5
+    array-read-result-5
+    mul-next-states
+    array-read-next-states
+    next-states-requires
+    mul-next-states-2
+    array-read-next-states-2
+    next-states-requires-2
+    mul-release-states
+    array-read-release-states
+    mul-release-states-2
+    array-read-release-states-2
+    release-states-requires
+    mul-release-states-3
+    array-read-release-states-3
+    mul-release-states-4
+    array-read-release-states-4
+    release-states-requires-2
+    returns
+    returns-2
+    returns-3
+    returns-4
+    returns-5
+    returns-6
+    returns-7
+    returns-8
+    returns-9
+    returns-10)

@@ -1,0 +1,65 @@
+-- 01, calls 3 and 4: what Label and Holding answer, and what every lent entry holds afterwards.
+use Prim.Native.Nat.{ℕ}
+use mathlib.Core.Bool.{Bool, cond}
+use mathlib.Core.List.{List, [], _∷_, _++_}
+use lib.ListN.{length, take, drop}
+use Rattle.table.specs.declared.refusal.Verdict.{Verdict}
+use Rattle.table.specs.declared.refusal.Verdict.the-variants.{Accepted, Refused}
+use Rattle.table.specs.Verdict.{refusalNumber}
+use Rattle.table.specs.Table.{Table, tableOf}
+use Rattle.ctl.specs.Rule.{rootIndex}
+use Rattle.ctl.specs.Levels.{tabulate}
+use Rattle.ctl.specs.Labels.{marked}
+use Rattle.label.specs.declared.analysis.Room.the-variants.{Nodes, States}
+use Rattle.label.specs.declared.holding.Holding.{Holding}
+use Rattle.label.specs.declared.holding.Holding.the-variants.{Count, Refuse}
+use Rattle.label.specs.Analysis.{analysisVerdict, labelWords}
+
+-- so many of the values first, and the rest of the buffer as it was
+abbrev pub over : {A : Type 0} → ℕ → List A → List A → List A
+over k values buffer = take k values ++ drop k buffer
+
+-- a buffer after a call: written where the call accepted, else untouched
+abbrev pub onAccepted : {A : Type 0} → Verdict → List A → List A → List A
+onAccepted Accepted written buffer = written
+onAccepted (Refused r) written buffer = buffer
+
+-- Label: f entries, bit s of entry i set exactly when s is marked for node i
+abbrev pub labelVerdict : List ℕ → List ℕ → ℕ → Verdict
+labelVerdict table list room = analysisVerdict (Nodes room) table list
+
+abbrev pub labelBuffer : List ℕ → List ℕ → List ℕ → List ℕ
+labelBuffer table list buffer =
+    onAccepted (labelVerdict table list (length buffer)) (over (length (tableOf table .nodes)) (labelWords (tableOf table) list) buffer) buffer
+
+-- those of the numbers that have p
+unfoldable pub select : (ℕ → Bool) → List ℕ → List ℕ
+select p [] = []
+select p (k ∷ ks) = cond (p k) (k ∷ select p ks) (select p ks)
+
+-- the states that have p. Their order is this definition's: ascending
+abbrev pub statesWith : (ℕ → Bool) → List ℕ
+statesWith p = select p (tabulate 32 (λ s. s))
+
+-- Holding: the states of the root's set
+abbrev pub heldStates : Table → List ℕ → List ℕ
+heldStates T list = statesWith (marked T list (rootIndex T))
+
+abbrev pub holdingVerdict : List ℕ → List ℕ → ℕ → Verdict
+holdingVerdict table list room = analysisVerdict (States room) table list
+
+abbrev pub holdingAt : Verdict → ℕ → Holding
+holdingAt Accepted count = Count count
+holdingAt (Refused r) count = Refuse r
+
+abbrev pub holdingAnswer : List ℕ → List ℕ → ℕ → Holding
+holdingAnswer table list room = holdingAt (holdingVerdict table list room) (length (heldStates (tableOf table) list))
+
+abbrev pub holdingBuffer : List ℕ → List ℕ → List ℕ → List ℕ
+holdingBuffer table list buffer =
+    onAccepted (holdingVerdict table list (length buffer)) (heldStates (tableOf table) list ++ drop (length (heldStates (tableOf table) list)) buffer) buffer
+
+-- the number of an answer: 0 where the states are given, else the refusal's
+abbrev pub holdingNumber : Holding → ℕ
+holdingNumber (Count k) = 0
+holdingNumber (Refuse r) = refusalNumber r

@@ -1,0 +1,56 @@
+// What the next states say, and the levels of release.
+ghost use mathlib.Core.Path.{_≡_};
+ghost use Prim.Native.Nat.{_≤_};
+ghost use Rattle.label.specs.Words.{quantifierOf, rowNext, nextWord, levelsWord};
+
+// The path quantifier: on every path, or on some path.
+pub enum Quantifier {
+    Every,
+    Some,
+}
+
+// AX or EX of a set at a state with this row. A state without a next state has neither.
+pub fn row_next(q: Quantifier, row: u32, set: u32) -> bool
+    ensures { λ r. ⌜ r ≡ rowNext (quantifierOf q) row set ⌝ }
+{
+    match q {
+        Quantifier::Every => {
+            if row == 0 {
+                return false;
+            }
+            row & !set == 0
+        }
+        Quantifier::Some => row & set != 0,
+    }
+}
+
+pub fn next_states(q: Quantifier, rows: [u32; 32], n: usize, set: u32) -> u32
+    requires { ⌜ n ≤ 32 ⌝ }
+    ensures { λ r. ⌜ r ≡ nextWord (quantifierOf q) rows n set ⌝ }
+{
+    let mut states = 0u32;
+    let mut s = 0;
+    while s < n {
+        states = sets::insert_if(states, s, row_next(q, rows[s], set));
+        s += 1;
+    }
+    states
+}
+
+// Level n of release, from the set of b; a level that changes nothing is the last that is needed.
+pub fn release_states(q: Quantifier, rows: [u32; 32], n: usize, a: u32, b: u32) -> u32
+    requires { ⌜ n ≤ 32 ⌝ }
+    ensures { λ r. ⌜ r ≡ levelsWord (quantifierOf q) rows n a b n ⌝ }
+{
+    let mut level = b;
+    let mut m = 0;
+    while m < n {
+        let next = b & (a | next_states(q, rows, n, level));
+        if next == level {
+            return level;
+        }
+        level = next;
+        m += 1;
+    }
+    level
+}

@@ -1,0 +1,179 @@
+// Measures Judge on largest tables against the same algorithm in plain Rust, in one run.
+mod fitter;
+
+// The same algorithm, not proved: 0 or the number of the refusal.
+mod plain {
+    fn check_table(t: &[u8]) -> u32 {
+        if t.len() < 4 {
+            return 2;
+        }
+        let (n, e, f, p) = (t[0] as usize, t[1] as usize, t[2] as usize, t[3] as usize);
+        if n < 1 || n > 32 || e > 128 || f < 1 || f > 32 || p > 16 {
+            return 3;
+        }
+        if t.len() != 4 + 3 * n + 2 * e + 3 * f {
+            return 2;
+        }
+        let (states, rest) = t[4..].split_at(3 * n);
+        let (steps, nodes) = rest.split_at(2 * e);
+        let mut initial = false;
+        for s in states.chunks(3) {
+            if s[0] > 1 || (s[1] as usize + 256 * s[2] as usize) >> p != 0 {
+                return 4;
+            }
+            initial |= s[0] == 1;
+        }
+        if !initial {
+            return 5;
+        }
+        let mut given = [0u32; 32];
+        let mut repeated = false;
+        for x in steps.chunks(2) {
+            if x[0] as usize >= n || x[1] as usize >= n {
+                return 6;
+            }
+            repeated |= given[x[0] as usize] >> x[1] & 1 == 1;
+            given[x[0] as usize] |= 1 << x[1];
+        }
+        if repeated {
+            return 7;
+        }
+        for (i, x) in nodes.chunks(3).enumerate() {
+            let (a, b) = (x[1] as usize, x[2] as usize);
+            let fits = match x[0] {
+                0 | 1 => a == 0 && b == 0,
+                2 => a < p && b == 0,
+                3 | 6 | 7 => a < i && b == 0,
+                4 | 5 | 8 | 9 => a < i && b < i,
+                _ => false,
+            };
+            if !fits {
+                return 8;
+            }
+        }
+        0
+    }
+
+    fn next(every: bool, rows: &[u32; 32], n: usize, set: u32) -> u32 {
+        let mut states = 0;
+        for s in 0..n {
+            let yes = if every { rows[s] != 0 && rows[s] & !set == 0 } else { rows[s] & set != 0 };
+            states |= (yes as u32) << s;
+        }
+        states
+    }
+
+    fn release(every: bool, rows: &[u32; 32], n: usize, a: u32, b: u32) -> u32 {
+        let mut level = b;
+        for _ in 0..n {
+            let above = b & (a | next(every, rows, n, level));
+            if above == level {
+                break;
+            }
+            level = above;
+        }
+        level
+    }
+
+    pub fn judge(t: &[u8], list: &[u8]) -> u32 {
+        let refused = check_table(t);
+        if refused != 0 {
+            return refused;
+        }
+        let (n, e, f) = (t[0] as usize, t[1] as usize, t[2] as usize);
+        if list.len() != e || list.iter().any(|&b| b > 1) {
+            return 9;
+        }
+        let (states, rest) = t[4..].split_at(3 * n);
+        let (steps, nodes) = rest.split_at(2 * e);
+        let mut rows = [0u32; 32];
+        for (x, &b) in steps.chunks(2).zip(list) {
+            if b == 1 {
+                rows[x[0] as usize] |= 1 << x[1];
+            }
+        }
+        let kept = (0..n).filter(|&s| rows[s] != 0).fold(0u32, |k, s| k | 1 << s);
+        if rows.iter().any(|r| r & !kept != 0) {
+            return 11;
+        }
+        let mut sets = [0u32; 32];
+        for (i, x) in nodes.chunks(3).enumerate() {
+            let (a, b) = (x[1] as usize, x[2] as usize);
+            sets[i] = match x[0] {
+                1 => kept,
+                2 => kept & (0..n).filter(|&s| (states[3 * s + 1] as u32 + 256 * states[3 * s + 2] as u32) >> a & 1 == 1).fold(0, |k, s| k | 1 << s),
+                3 => kept & !sets[a],
+                4 => sets[a] & sets[b],
+                5 => sets[a] | sets[b],
+                6 => next(true, &rows, n, sets[a]),
+                7 => next(false, &rows, n, sets[a]),
+                8 => release(true, &rows, n, sets[a], sets[b]),
+                9 => release(false, &rows, n, sets[a], sets[b]),
+                _ => 0,
+            };
+        }
+        let starts = kept & (0..n).filter(|&s| states[3 * s] == 1).fold(0, |k, s| k | 1 << s);
+        if starts == 0 {
+            return 12;
+        }
+        if starts & !sets[f - 1] != 0 {
+            return 13;
+        }
+        0
+    }
+}
+
+// A fixed sequence of numbers, the same in every run.
+struct Random(u64);
+
+impl Random {
+    fn below(&mut self, n: u64) -> u64 {
+        self.0 = self.0.wrapping_mul(6364136223846793005).wrapping_add(1442695040888963407);
+        (self.0 >> 33) % n
+    }
+}
+
+// 32 states, 128 steps, 32 nodes: four steps out of each state, and fixed-point nodes where they can stand.
+fn largest(random: &mut Random) -> (Vec<u8>, Vec<u8>) {
+    let mut t = vec![32, 128, 32, 16];
+    for s in 0..32 {
+        t.extend([(s == 0) as u8, random.below(256) as u8, random.below(256) as u8]);
+    }
+    for s in 0..32u8 {
+        let first = random.below(32) as u8;
+        for k in 0..4 {
+            t.extend([s, (first + 7 * k) % 32]);
+        }
+    }
+    for i in 0..32u64 {
+        if i < 4 {
+            t.extend([2, random.below(16) as u8, 0]);
+        } else {
+            t.extend([8 + random.below(2) as u8, random.below(i) as u8, random.below(i) as u8]);
+        }
+    }
+    (t, vec![1; 128])
+}
+
+fn main() {
+    let mut random = Random(1);
+    let inputs: Vec<(Vec<u8>, Vec<u8>)> = (0..200).map(|_| largest(&mut random)).collect();
+    for (t, l) in &inputs {
+        assert_eq!(fitter::judge(t, l), plain::judge(t, l), "judges differ");
+    }
+    let mut best = [f64::MAX; 2];
+    for _ in 0..7 {
+        for (k, judge) in [fitter::judge as fn(&[u8], &[u8]) -> u32, plain::judge].iter().enumerate() {
+            let start = std::time::Instant::now();
+            let mut sum = 0;
+            for _ in 0..20 {
+                for (t, l) in &inputs {
+                    sum += std::hint::black_box(judge(std::hint::black_box(t), std::hint::black_box(l)));
+                }
+            }
+            std::hint::black_box(sum);
+            best[k] = best[k].min(start.elapsed().as_secs_f64() / (20.0 * inputs.len() as f64) * 1e6);
+        }
+    }
+    println!("judge, largest tables: {:.2} us a call; plain Rust {:.2} us; ratio {:.2}", best[0], best[1], best[0] / best[1]);
+}
