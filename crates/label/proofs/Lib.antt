@@ -1,4 +1,5 @@
 pub mod Order
+pub mod Analysed
 pub mod KeptSteps
 pub mod ReadNode
 pub mod Marks

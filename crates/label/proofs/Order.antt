@@ -1,25 +1,21 @@
 -- The tests of an analysis in their order: which verdict comes of which test.
 use Prim.Native.Nat.{ℕ}
-use mathlib.Core.Path.{_≡_, refl, sym, ap, _∙_}
+use mathlib.Core.Path.{_≡_, sym, ap, _∙_}
 use mathlib.Core.Bool.{Bool, true, false}
 use mathlib.Core.List.{List}
-use lib.Dec.{eqb}
 use lib.ListN.{length}
-use Rattle.sets.specs.Member.{setOf}
 use Rattle.table.specs.declared.refusal.Refusal.{Refusal}
 use Rattle.table.specs.declared.refusal.Refusal.the-variants.{ShortBuffer, NotTotal}
 use Rattle.table.specs.declared.refusal.Verdict.{Verdict}
 use Rattle.table.specs.declared.refusal.Verdict.the-variants.{Accepted, Refused}
 use Rattle.table.specs.Verdict.{require, _then_}
-use Rattle.table.specs.Table.{Table, tableOf, stateAt}
+use Rattle.table.specs.Table.{Table, tableOf}
 use Rattle.table.specs.Accept.{tableVerdict, listVerdict}
 use Rattle.table.proofs.Verdicts.{then-refused, then-next, then-accepted, require-accepted}
-use Rattle.ctl.specs.Rule.{rootIndex}
-use Rattle.ctl.specs.Labels.{isKept, marked}
 use Rattle.ctl.specs.Tests.{isTotal}
 use Rattle.label.specs.declared.analysis.Room.{Room}
 use Rattle.label.specs.declared.analysis.Analysis.{Analysis}
-use Rattle.label.specs.Analysis.{roomFits, analysisVerdict, analysisAt, nothing, labelWords}
+use Rattle.label.specs.Analysis.{roomFits, analysisVerdict, analysisAt, nothing}
 
 -- a refusal comes with nothing
 pub refused-analysis : (v : Verdict) (r : Refusal) (T : Table) (list : List ℕ) (o : Analysis) → v ≡ Refused r → o ≡ nothing (Refused r) → o ≡ analysisAt v T list
@@ -57,23 +53,6 @@ module _ (room : Room) (table list : List ℕ) where
           go-on
           ∙ then-next (listVerdict (length (tableOf table .steps)) list) _ fine
           ∙ ap (λ (b : Bool). require ShortBuffer b then require NotTotal (isTotal (tableOf table) list)) e
-
--- the verdict of an analysis is that of its tests, and where it accepts the words are those of the labels
-pub at-verdict : (v : Verdict) (T : Table) (list : List ℕ) → analysisAt v T list .verdict ≡ v
-at-verdict Accepted T list = refl
-at-verdict (Refused r) T list = refl
-
-pub at-words : (v : Verdict) (T : Table) (list : List ℕ) → v ≡ Accepted → analysisAt v T list .words ≡ labelWords T list
-at-words v T list e = ap (λ (w : Verdict). analysisAt w T list .words) e
-
-pub at-root : (v : Verdict) (T : Table) (list : List ℕ) → v ≡ Accepted → analysisAt v T list .root ≡ setOf 32 (marked T list (rootIndex T))
-at-root v T list e = ap (λ (w : Verdict). analysisAt w T list .root) e
-
-pub at-kept : (v : Verdict) (T : Table) (list : List ℕ) → v ≡ Accepted → analysisAt v T list .kept ≡ setOf 32 (isKept T list)
-at-kept v T list e = ap (λ (w : Verdict). analysisAt w T list .kept) e
-
-pub at-initial : (v : Verdict) (T : Table) (list : List ℕ) → v ≡ Accepted → analysisAt v T list .initial ≡ setOf 32 (λ s. eqb (stateAt T s .initial) 1)
-at-initial v T list e = ap (λ (w : Verdict). analysisAt w T list .initial) e
 
 -- what an accepting analysis says of its tests
 module _ (room : Room) (table list : List ℕ) (ok : analysisVerdict room table list ≡ Accepted) where

@@ -12,50 +12,38 @@ use Rattle.table.specs.declared.refusal.Refusal.the-variants.{NoInitialKept, Ro
 use Rattle.table.specs.declared.refusal.Verdict.the-variants.{Accepted}
 use Rattle.table.specs.Verdict.{require, _then_}
 use Rattle.table.specs.Table.{tableOf, stateAt}
-use Rattle.table.proofs.Accepted.{accepted}
 use Rattle.table.proofs.Verdicts.{then-refused, then-next}
-use Rattle.ctl.specs.Rule.{rootIndex}
-use Rattle.ctl.specs.Labels.{isKept, marked}
+use Rattle.ctl.specs.Labels.{isKept}
 use Rattle.ctl.specs.Tests.{isInitialKept, keepsInitial, rootMarked, judgeVerdict}
 use Rattle.label.specs.declared.analysis.Analysis.{Analysis}
 use Rattle.label.specs.declared.analysis.Room.the-variants.{Any}
 use Rattle.label.specs.Analysis.{analysisOf, analysisVerdict}
-use Rattle.label.proofs.Order.{at-verdict, at-initial, at-kept, at-root, table-accepted}
+use Rattle.label.proofs.Analysed.{verdict-is, passed, packed, initial-is, kept-is, root-is}
 use Rattle.judge.proofs.Starts.{keeps-word, root-word}
 use Rattle.judge.proofs.Order.{judge-order}
 use borrow.Author.Needs.{needs}
 use Rattle.judge.proofs.judge_list.Statement.{statement}
 use Rattle.judge.proofs.judge_list.Tie as tie
 
-module _ (table list : List ℕ) (a : Analysis) (e : a ≡ analysisOf Any table list) where
-  verdict-is : a .verdict ≡ analysisVerdict Any table list
-  verdict-is = ap (λ (x : Analysis). x .verdict) e ∙ at-verdict (analysisVerdict Any table list) (tableOf table) list
+module _ (table list : List ℕ) (a : Analysis) (e : a ≡ analysisOf Any table list) (ok : a .verdict ≡ Accepted) where
+  -- what is left to test
+  left : judgeVerdict table list ≡ require NoInitialKept (keepsInitial (tableOf table) list) then require RootFails (rootMarked (tableOf table) list)
+  left = judge-order table list ∙ then-next (analysisVerdict Any table list) _ (passed Any table list a e ok)
 
-  module _ (ok : a .verdict ≡ Accepted) where
-    abbrev passed : analysisVerdict Any table list ≡ Accepted
-    passed = sym verdict-is ∙ ok
+  starts-are : (w : ℕ) → w ≡ setOf 32 (λ t. member (a .initial) t && member (a .kept) t) → w ≡ setOf 32 (isInitialKept (tableOf table) list)
+  starts-are w f =
+      f ∙ setOf-cong 32 _ _ (λ s h. λ i.
+      (ap (λ (m : ℕ). member m s) (initial-is Any table list a e ok)
+      ∙ member-setOf-below 32 (λ s. eqb (stateAt (tableOf table) s .initial) 1) s h) i
+      && (ap (λ (m : ℕ). member m s) (kept-is Any table list a e ok)
+      ∙ member-setOf-below 32 (isKept (tableOf table) list) s h) i)
 
-    -- what is left to test
-    left : judgeVerdict table list ≡ require NoInitialKept (keepsInitial (tableOf table) list) then require RootFails (rootMarked (tableOf table) list)
-    left = judge-order table list ∙ then-next (analysisVerdict Any table list) _ passed
+  keeps : (w : ℕ) → w ≡ setOf 32 (λ t. member (a .initial) t && member (a .kept) t) → not (eqb w 0) ≡ keepsInitial (tableOf table) list
+  keeps w f = keeps-word (tableOf table) (packed Any table list a e ok .table) list w (starts-are w f)
 
-    starts-are : (w : ℕ) → w ≡ setOf 32 (λ t. member (a .initial) t && member (a .kept) t) → w ≡ setOf 32 (isInitialKept (tableOf table) list)
-    starts-are w f =
-        f ∙ setOf-cong 32 _ _ (λ s h. λ i.
-        (ap (λ (m : ℕ). member m s) (ap (λ (x : Analysis). x .initial) e ∙ at-initial (analysisVerdict Any table list) (tableOf table) list passed)
-        ∙ member-setOf-below 32 (λ s. eqb (stateAt (tableOf table) s .initial) 1) s h) i
-        && (ap (λ (m : ℕ). member m s) (ap (λ (x : Analysis). x .kept) e ∙ at-kept (analysisVerdict Any table list) (tableOf table) list passed)
-        ∙ member-setOf-below 32 (isKept (tableOf table) list) s h) i)
-
-    root-is : a .root ≡ setOf 32 (marked (tableOf table) list (rootIndex (tableOf table)))
-    root-is = ap (λ (x : Analysis). x .root) e ∙ at-root (analysisVerdict Any table list) (tableOf table) list passed
-
-    keeps : (w : ℕ) → w ≡ setOf 32 (λ t. member (a .initial) t && member (a .kept) t) → not (eqb w 0) ≡ keepsInitial (tableOf table) list
-    keeps w f = keeps-word (tableOf table) (accepted table (table-accepted Any table list passed) .table) list w (starts-are w f)
-
-    root-marks : (w : ℕ) → w ≡ setOf 32 (λ t. member (a .initial) t && member (a .kept) t) → (x : ℕ) → x ≡ setOf 32 (λ t. member w t && not (member (a .root) t))
-        → eqb x 0 ≡ rootMarked (tableOf table) list
-    root-marks w f x g = root-word (tableOf table) (accepted table (table-accepted Any table list passed) .table) list w (a .root) x (starts-are w f) root-is g
+  root-marks : (w : ℕ) → w ≡ setOf 32 (λ t. member (a .initial) t && member (a .kept) t) → (x : ℕ) → x ≡ setOf 32 (λ t. member w t && not (member (a .root) t))
+      → eqb x 0 ≡ rootMarked (tableOf table) list
+  root-marks w f x g = root-word (tableOf table) (packed Any table list a e ok .table) list w (a .root) x (starts-are w f) (root-is Any table list a e ok) g
 
 analyse-requires : tie.Need-analyse-requires
 analyse-requires c κs = search needs
@@ -67,7 +55,7 @@ returns : tie.Need-returns
 returns c =
     let t = now (c .before .before .before .before .before .args .table) in
     let l = now (c .before .before .before .before .before .args .list) in
-    let v = verdict-is t l (c .before .before .analyse .result) (c .before .before .analyse .ensures) in
+    let v = verdict-is Any t l (c .before .before .analyse .result) (c .before .before .analyse .ensures) in
     let told = c .enum-told .given in
     v ∙ sym (judge-order t l ∙ then-refused (analysisVerdict Any t l) _ (told .0 .0) (sym v ∙ told .1))
 

@@ -11,7 +11,6 @@ use Rattle.sets.proofs.SetOf.{member-setOf-below, countOf-cong}
 use Rattle.table.specs.declared.refusal.Verdict.{Verdict}
 use Rattle.table.specs.declared.refusal.Verdict.the-variants.{Accepted}
 use Rattle.table.specs.Table.{tableOf}
-use Rattle.table.proofs.Accepted.{accepted}
 use Rattle.ctl.specs.Rule.{rootIndex}
 use Rattle.ctl.specs.Levels.{tabulate}
 use Rattle.ctl.specs.Labels.{marked}
@@ -19,45 +18,32 @@ use Rattle.ctl.proofs.Tabulate.{tabulate-member}
 use Rattle.label.specs.declared.analysis.Analysis.{Analysis}
 use Rattle.label.specs.declared.analysis.Room.the-variants.{States}
 use Rattle.label.specs.declared.holding.Holding.the-variants.{Count}
-use Rattle.label.specs.Analysis.{analysisOf, analysisVerdict}
-use Rattle.label.specs.Calls.{onAccepted, statesWith, heldStates, holdingAt, holdingVerdict}
-use Rattle.label.proofs.Order.{at-verdict, at-root, table-accepted, room-accepted}
+use Rattle.label.specs.Analysis.{analysisOf}
+use Rattle.label.specs.Calls.{onAccepted, statesWith, heldStates, holdingAt}
+use Rattle.label.proofs.Order.{room-accepted}
+use Rattle.label.proofs.Analysed.{verdict-is, passed, packed, root-is}
 use Rattle.label.proofs.Lowest.{select-cong}
 use Rattle.label.proofs.Held.{held-count, held-few}
-use Rattle.table.specs.Accept.{tableVerdict}
 use borrow.Author.Needs.{needs}
 use Rattle.label.proofs.holding.holding_states.Statement.{statement}
 use Rattle.label.proofs.holding.holding_states.Tie as tie
 
-module _ (table list : List ℕ) (room : ℕ) (a : Analysis) (e : a ≡ analysisOf (States room) table list) where
-  verdict-is : a .verdict ≡ holdingVerdict table list room
-  verdict-is = ap (λ (x : Analysis). x .verdict) e ∙ at-verdict (analysisVerdict (States room) table list) (tableOf table) list
+module _ (table list : List ℕ) (room : ℕ) (a : Analysis) (e : a ≡ analysisOf (States room) table list) (ok : a .verdict ≡ Accepted) where
+  states-are : (w : ℕ) → w ≡ setOf 32 (marked (tableOf table) list (rootIndex (tableOf table))) → statesWith (member w) ≡ heldStates (tableOf table) list
+  states-are w r =
+      ap (λ (m : ℕ). statesWith (member m)) r
+      ∙ select-cong _ _ (tabulate 32 (λ s. s)) (λ s m. let t = tabulate-member 32 (λ s. s) m in member-setOf-below 32 (marked (tableOf table) list (rootIndex (tableOf table))) s (rw (t .2) (t .1)))
 
-  module _ (ok : a .verdict ≡ Accepted) where
-    abbrev passed : analysisVerdict (States room) table list ≡ Accepted
-    passed = sym verdict-is ∙ ok
+  count-is : (w : ℕ) → w ≡ setOf 32 (marked (tableOf table) list (rootIndex (tableOf table))) → countOf 32 (member w) ≡ length (heldStates (tableOf table) list)
+  count-is w r =
+      ap (λ (m : ℕ). countOf 32 (member m)) r
+      ∙ countOf-cong 32 _ _ (member-setOf-below 32 (marked (tableOf table) list (rootIndex (tableOf table))))
+      ∙ sym (held-count (tableOf table) list)
 
-    abbrev tabled : tableVerdict table ≡ Accepted
-    tabled = table-accepted (States room) table list passed
-
-    root-is : a .root ≡ setOf 32 (marked (tableOf table) list (rootIndex (tableOf table)))
-    root-is = ap (λ (x : Analysis). x .root) e ∙ at-root (analysisVerdict (States room) table list) (tableOf table) list passed
-
-    states-are : (w : ℕ) → w ≡ setOf 32 (marked (tableOf table) list (rootIndex (tableOf table))) → statesWith (member w) ≡ heldStates (tableOf table) list
-    states-are w r =
-        ap (λ (m : ℕ). statesWith (member m)) r
-        ∙ select-cong _ _ (tabulate 32 (λ s. s)) (λ s m. let t = tabulate-member 32 (λ s. s) m in member-setOf-below 32 (marked (tableOf table) list (rootIndex (tableOf table))) s (rw (t .2) (t .1)))
-
-    count-is : (w : ℕ) → w ≡ setOf 32 (marked (tableOf table) list (rootIndex (tableOf table))) → countOf 32 (member w) ≡ length (heldStates (tableOf table) list)
-    count-is w r =
-        ap (λ (m : ℕ). countOf 32 (member m)) r
-        ∙ countOf-cong 32 _ _ (member-setOf-below 32 (marked (tableOf table) list (rootIndex (tableOf table))))
-        ∙ sym (held-count (tableOf table) list)
-
-    room-for : length (heldStates (tableOf table) list) ≤ room
-    room-for =
-        let few = held-few (tableOf table) (accepted table tabled .table) list in
-        omega (arith, few, leb-true (length (tableOf table .states)) room (room-accepted (States room) table list passed))
+  room-for : length (heldStates (tableOf table) list) ≤ room
+  room-for =
+      let few = held-few (tableOf table) (packed (States room) table list a e ok .table) list in
+      omega (arith, few, leb-true (length (tableOf table .states)) room (room-accepted (States room) table list (passed (States room) table list a e ok)))
 
 analyse-requires : tie.Need-analyse-requires
 analyse-requires c κs = search needs
@@ -71,7 +57,7 @@ returns c =
     let t = now (a .table) in
     let l = now (a .list) in
     let out = now (a .out) in
-    let v = verdict-is t l (length out) (c .before .before .before .analyse .result) (c .before .before .before .analyse .ensures) in
+    let v = verdict-is (States (length out)) t l (c .before .before .before .analyse .result) (c .before .before .before .analyse .ensures) in
     let refused = sym v ∙ c .before .verdict .given .1 in (
       sym (ap (λ (w : Verdict). holdingAt w (length (heldStates (tableOf t) l))) refused),
       sym (ap (λ (w : Verdict). onAccepted w (heldStates (tableOf t) l ++ drop (length (heldStates (tableOf t) l)) out) out) refused),
@@ -89,7 +75,7 @@ write-states-requires c κs =
     let A = c .before .before .before .analyse .result in
     let E = c .before .before .before .analyse .ensures in
     let ok = c .before .enum-told .given .1 in
-    rw (states-are t l n A E ok (A .root) (root-is t l n A E ok)) (room-for t l n A E ok)
+    rw (states-are t l n A E ok (A .root) (root-is (States n) t l A E ok)) (room-for t l n A E ok)
 
 count-requires : tie.Need-count-requires
 count-requires c κs = search needs
@@ -107,8 +93,8 @@ returns-2 c =
     let A = c .before .before .before .before .before .before .before .analyse .result in
     let E = c .before .before .before .before .before .before .before .analyse .ensures in
     let ok = c .before .before .before .before .before .enum-told .given .1 in
-    let v = sym (verdict-is t l n A E) ∙ ok in
-    let root = root-is t l n A E ok in (
+    let v = sym (verdict-is (States n) t l A E) ∙ ok in
+    let root = root-is (States n) t l A E ok in (
       ap Count (c .count .ensures ∙ count-is t l n A E ok (A .root) root) ∙ sym (ap (λ (x : Verdict). holdingAt x (length (heldStates (tableOf t) l))) v),
       c .before .before .before .write-states .ensures
           ∙ ap (λ (xs : List ℕ). xs ++ drop (length xs) out) (states-are t l n A E ok (A .root) root)

@@ -10,42 +10,32 @@ use Rattle.table.specs.declared.counts.Counts.{Counts}
 use Rattle.table.specs.declared.refusal.Verdict.{Verdict}
 use Rattle.table.specs.declared.refusal.Verdict.the-variants.{Accepted}
 use Rattle.table.specs.Table.{tableOf, countsOf}
-use Rattle.table.proofs.Accepted.{accepted}
 use Rattle.ctl.proofs.Tabulate.{length-tabulate}
 use Rattle.sets.specs.Member.{setOf}
 use Rattle.ctl.specs.Labels.{marked}
 use Rattle.label.specs.declared.analysis.Analysis.{Analysis}
 use Rattle.label.specs.declared.analysis.Room.the-variants.{Nodes}
-use Rattle.label.specs.Analysis.{analysisOf, analysisVerdict, labelWords}
-use Rattle.label.specs.Calls.{over, onAccepted, labelVerdict}
-use Rattle.label.proofs.Order.{at-verdict, at-words, table-accepted, room-accepted}
+use Rattle.label.specs.Analysis.{analysisOf, labelWords}
+use Rattle.label.specs.Calls.{over, onAccepted}
+use Rattle.label.proofs.Order.{room-accepted}
+use Rattle.label.proofs.Analysed.{verdict-is, passed, packed, words-are}
 use borrow.Author.Needs.{needs}
 use Rattle.label.proofs.label.label_nodes.Statement.{statement}
 use Rattle.label.proofs.label.label_nodes.Tie as tie
 
-module _ (table list : List ℕ) (room : ℕ) (a : Analysis) (e : a ≡ analysisOf (Nodes room) table list) where
-  verdict-is : a .verdict ≡ labelVerdict table list room
-  verdict-is = ap (λ (x : Analysis). x .verdict) e ∙ at-verdict (analysisVerdict (Nodes room) table list) (tableOf table) list
+module _ (table list : List ℕ) (room : ℕ) (a : Analysis) (e : a ≡ analysisOf (Nodes room) table list) (ok : a .verdict ≡ Accepted) where
+  words-length : length (a .words) ≡ 32
+  words-length = ap length (words-are (Nodes room) table list a e ok) ∙ length-tabulate 32 (λ i. setOf 32 (marked (tableOf table) list i))
 
-  module _ (ok : a .verdict ≡ Accepted) where
-    abbrev passed : analysisVerdict (Nodes room) table list ≡ Accepted
-    passed = sym verdict-is ∙ ok
+  nodes-are : (k : Counts) → k ≡ countsOf table → k .nodes ≡ length (tableOf table .nodes)
+  nodes-are k c = ap (λ (x : Counts). x .nodes) c ∙ sym (packed (Nodes room) table list a e ok .nodes-count)
 
-    words-are : a .words ≡ labelWords (tableOf table) list
-    words-are = ap (λ (x : Analysis). x .words) e ∙ at-words (analysisVerdict (Nodes room) table list) (tableOf table) list passed
-
-    words-length : length (a .words) ≡ 32
-    words-length = ap length words-are ∙ length-tabulate 32 (λ i. setOf 32 (marked (tableOf table) list i))
-
-    nodes-are : (k : Counts) → k ≡ countsOf table → k .nodes ≡ length (tableOf table .nodes)
-    nodes-are k c = ap (λ (x : Counts). x .nodes) c ∙ sym (accepted table (table-accepted (Nodes room) table list passed) .nodes-count)
-
-    fits : (k : Counts) → k ≡ countsOf table → (k .nodes ≤ 32) × (k .nodes ≤ room)
-    fits k c =
-        let n = nodes-are k c in
-        let few = accepted table (table-accepted (Nodes room) table list passed) .table .few-nodes in
-        let room-for = leb-true (length (tableOf table .nodes)) room (room-accepted (Nodes room) table list passed) in
-        (omega (arith, n, few), omega (arith, n, room-for))
+  fits : (k : Counts) → k ≡ countsOf table → (k .nodes ≤ 32) × (k .nodes ≤ room)
+  fits k c =
+      let n = nodes-are k c in
+      let few = packed (Nodes room) table list a e ok .table .few-nodes in
+      let room-for = leb-true (length (tableOf table .nodes)) room (room-accepted (Nodes room) table list (passed (Nodes room) table list a e ok)) in
+      (omega (arith, n, few), omega (arith, n, room-for))
 
 analyse-requires : tie.Need-analyse-requires
 analyse-requires c κs = search needs
@@ -59,7 +49,7 @@ returns c =
     let t = now (a .table) in
     let l = now (a .list) in
     let out = now (a .out) in
-    let v = verdict-is t l (length out) (c .before .before .analyse .result) (c .before .before .analyse .ensures) in
+    let v = verdict-is (Nodes (length out)) t l (c .before .before .analyse .result) (c .before .before .analyse .ensures) in
     (v, sym (ap (λ (w : Verdict). onAccepted w (over (length (tableOf t .nodes)) (labelWords (tableOf t) l) out) out) (sym v ∙ c .enum-told .given .1)))
 
 enum-told-2 : tie.Need-enum-told-2
@@ -90,10 +80,10 @@ returns-2 c =
     let A = c .before .before .before .before .before .before .before .before .analyse .result in
     let E = c .before .before .before .before .before .before .before .before .analyse .ensures in
     let ok = c .before .before .before .before .before .before .enum-told2 .given .1 in
-    let v = verdict-is t l (length out) A E in (
+    let v = verdict-is (Nodes (length out)) t l A E in (
       v,
       c .before .before .write-words .ensures
-          ∙ (λ j. over (nodes-are t l (length out) A E ok (c .before .before .before .before .before .counts-of .result) (c .before .before .before .before .before .counts-of .ensures) j) (words-are t l (length out) A E ok j) out)
+          ∙ (λ j. over (nodes-are t l (length out) A E ok (c .before .before .before .before .before .counts-of .result) (c .before .before .before .before .before .counts-of .ensures) j) (words-are (Nodes (length out)) t l A E ok j) out)
           ∙ sym (ap (λ (w : Verdict). onAccepted w (over (length (tableOf t .nodes)) (labelWords (tableOf t) l) out) out) (sym v ∙ ok)),
     )
 

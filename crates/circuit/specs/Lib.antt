@@ -1,0 +1,4 @@
+pub mod Logic
+pub mod Variables
+pub mod Gates
+pub mod Clauses

@@ -1,0 +1,72 @@
+-- 01, "Sample tables": the cases marked *, each with its answer.
+use Prim.Native.Nat.{ℕ}
+use mathlib.Core.Bool.{Bool, true, false, _&&_}
+use mathlib.Core.List.{List, [], _∷_, _++_}
+use lib.Dec.{eqb}
+use Rattle.table.specs.Verdict.{verdictNumber}
+use Rattle.table.specs.Table.{Table, tableOf}
+use Rattle.ctl.specs.Tests.{judgeVerdict}
+use Rattle.search.specs.Search.{Outcome, found, none, spent}
+use Rattle.search.specs.Numbered.{sameCode, searchUnder, listOf}
+
+-- what the search answers, with its choices
+pub data Answer : Type 0 where
+  finds : List ℕ → ℕ → Answer
+  finds-none spends : ℕ → Answer
+
+-- a table searched under a cap, or a list judged
+pub data Case : Type 0 where
+  searched : List ℕ → ℕ → Answer → Case
+  judged : List ℕ → List ℕ → ℕ → Case
+
+unfoldable pub answers : Table → Answer → Outcome → Bool
+answers T (finds list c) (found m k) = sameCode (listOf T m) list && eqb k c
+answers T (finds list c) (none k) = false
+answers T (finds list c) (spent k) = false
+answers T (finds-none c) (found m k) = false
+answers T (finds-none c) (none k) = eqb k c
+answers T (finds-none c) (spent k) = false
+answers T (spends c) (found m k) = false
+answers T (spends c) (none k) = false
+answers T (spends c) (spent k) = eqb k c
+
+unfoldable pub passes : Case → Bool
+passes (searched table cap answer) = let T = tableOf table in answers T answer (searchUnder T cap)
+passes (judged table list number) = eqb (verdictNumber (judgeVerdict table list)) number
+
+-- the sheet: three states, four steps; always, no endless stretch of proposition 0
+abbrev pub sheet : List ℕ
+sheet =
+    (3 ∷ 4 ∷ 5 ∷ 1 ∷ [])
+    ++ (1 ∷ 0 ∷ 0 ∷ 0 ∷ 1 ∷ 0 ∷ 0 ∷ 1 ∷ 0 ∷ [])
+    ++ (0 ∷ 1 ∷ 1 ∷ 0 ∷ 1 ∷ 2 ∷ 2 ∷ 2 ∷ [])
+    ++ (0 ∷ 0 ∷ 0 ∷ 2 ∷ 0 ∷ 0 ∷ 9 ∷ 0 ∷ 1 ∷ 3 ∷ 2 ∷ 0 ∷ 8 ∷ 0 ∷ 3 ∷ [])
+
+-- one state with this label, step 0 0, rule A[p0 V p1]
+abbrev pub loop : ℕ → List ℕ
+loop label = (1 ∷ 1 ∷ 3 ∷ 2 ∷ []) ++ (1 ∷ label ∷ 0 ∷ []) ++ (0 ∷ 0 ∷ []) ++ (2 ∷ 0 ∷ 0 ∷ 2 ∷ 1 ∷ 0 ∷ 8 ∷ 0 ∷ 1 ∷ [])
+
+-- states 0 and 1 both initial, labels 1 and 0, steps 0 0 and 1 1, rule p0
+abbrev pub two-loops : List ℕ
+two-loops = (2 ∷ 2 ∷ 1 ∷ 1 ∷ []) ++ (1 ∷ 1 ∷ 0 ∷ 1 ∷ 0 ∷ 0 ∷ []) ++ (0 ∷ 0 ∷ 1 ∷ 1 ∷ []) ++ (2 ∷ 0 ∷ 0 ∷ [])
+
+-- two states, 0 initial, only step 0 1, rule true
+abbrev pub dead-end : List ℕ
+dead-end = (2 ∷ 1 ∷ 1 ∷ 0 ∷ []) ++ (1 ∷ 0 ∷ 0 ∷ 0 ∷ 0 ∷ 0 ∷ []) ++ (0 ∷ 1 ∷ []) ++ (1 ∷ 0 ∷ 0 ∷ [])
+
+abbrev pub cases : List Case
+cases =
+    searched sheet 1000000 (finds (1 ∷ 1 ∷ 0 ∷ 1 ∷ []) 4)
+    ∷ searched sheet 4 (finds (1 ∷ 1 ∷ 0 ∷ 1 ∷ []) 4)
+    ∷ searched sheet 3 (spends 3)
+    ∷ judged sheet (1 ∷ 1 ∷ 0 ∷ 1 ∷ []) 0
+    ∷ judged sheet (1 ∷ 1 ∷ 0 ∷ 0 ∷ []) 0
+    ∷ judged sheet (1 ∷ 1 ∷ 1 ∷ 1 ∷ []) 13
+    ∷ judged sheet (1 ∷ 1 ∷ 1 ∷ 0 ∷ []) 11
+    ∷ judged sheet (0 ∷ 0 ∷ 0 ∷ 1 ∷ []) 12
+    ∷ searched (loop 1) 1000000 (finds-none 0)
+    ∷ searched (loop 2) 1000000 (finds (1 ∷ []) 0)
+    ∷ searched (loop 3) 1000000 (finds (1 ∷ []) 0)
+    ∷ searched two-loops 1000000 (finds (1 ∷ 0 ∷ []) 0)
+    ∷ searched dead-end 1000000 (finds-none 0)
+    ∷ []

@@ -1,0 +1,1 @@
+// 01's sample tables, worked out from the definitions.

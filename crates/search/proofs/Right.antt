@@ -1,0 +1,27 @@
+-- The search of a table keeps what it promises.
+use lib.ListN.{length}
+use Rattle.table.specs.Table.{Table}
+use Rattle.table.specs.Facts.{Wellformed}
+use Rattle.ctl.proofs.Tabulate.{length-tabulate}
+use Rattle.circuit.specs.Variables.{below, variableCount}
+use Rattle.search.specs.Closure.{closure}
+use Rattle.search.specs.Numbered.{numberedClauses, tableSearch}
+use Rattle.search.specs.Right.{SearchIsRight}
+use Rattle.search.proofs.Cap.{search-unspent, search-cut, search-same, search-few}
+use Rattle.search.proofs.First.{search-none, search-found}
+use Rattle.search.proofs.ClosureRight.{closure-is-right}
+
+-- The search finds the first repair, or that there is none, and is cut at each cap.
+pub search-is-right : (T : Table) → Wellformed T → SearchIsRight T
+unfolding tableSearch
+search-is-right T wf =
+    let close = closure (variableCount T) (numberedClauses T) in
+    let steps = below (length (T .steps)) in
+    record {
+      unspent = search-unspent close steps;
+      none-exact = search-none (closure-is-right T wf);
+      found-first = search-found (closure-is-right T wf);
+      spent-over = search-cut close steps;
+      same-within = search-same close steps;
+      few-choices = rw length-tabulate at (search-few close steps);
+    }

@@ -1,0 +1,4 @@
+pub mod Closure
+pub mod Search
+pub mod Numbered
+pub mod Right

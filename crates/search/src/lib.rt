@@ -1,0 +1,1 @@
+// The search for the first repair: definitions, and why it finds it.
