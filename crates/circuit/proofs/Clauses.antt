@@ -9,10 +9,12 @@ use Rattle.table.specs.Table.{Table, stepAt}
 use Rattle.ctl.specs.Rule.{rootIndex}
 use Rattle.ctl.specs.Kept.{Initial}
 use Rattle.circuit.specs.Logic.{pos, neg, gateClauses}
-use Rattle.circuit.specs.Variables.{step, kept, below, concat, value}
+use Rattle.circuit.specs.Variables.{step, kept, concat, value}
 use Rattle.circuit.specs.Gates.{Defined, gates}
 use Rattle.circuit.specs.Clauses.{Clause, initials, demands, clauses}
-use Rattle.circuit.proofs.Lists.{Each, each-one, each-append, each-map, each-concat, in-concat, in-below, in-select}
+use Rattle.circuit.proofs.Lists.{Each, each-one, each-append, each-map, each-concat, in-concat}
+use Rattle.ctl.proofs.Select.{in-below, in-select}
+use Rattle.ctl.specs.Levels.{below}
 
 -- the clauses of a gate with its output
 abbrev pub clausesOf : Defined → List Clause

@@ -12,10 +12,10 @@ use Rattle.table.specs.declared.record.Step.{Step}
 use Rattle.table.specs.Table.{Table, nodeAt}
 use Rattle.table.specs.Facts.{Wellformed}
 use Rattle.ctl.specs.Rule.{Operator, constant, atom, negation, conjunction, disjunction, next, release, operatorOf}
-use Rattle.ctl.specs.Levels.{tabulate}
+use Rattle.ctl.specs.Levels.{tabulate, below}
 use Rattle.ctl.proofs.Tabulate.{length-tabulate}
 use Rattle.ctl.proofs.BottomUp.{zeroNode, Below, children-below}
-use Rattle.circuit.specs.Variables.{Var, step, kept, node, edge, level, below, concat, outOf, stepsOut, nodeVariables, variables, variableCount, costOf, costs, variableFormula}
+use Rattle.circuit.specs.Variables.{Var, step, kept, node, edge, level, concat, outOf, stepsOut, nodeVariables, variables, variableCount, costOf, costs, variableFormula}
 
 -- ---- sums
 

@@ -7,11 +7,12 @@ use lib.ListN.{length, getD, length-map, List·getD-append, List·getD-map}
 use Rattle.table.specs.Table.{Table, nodeAt, stepAt}
 use Rattle.ctl.specs.Rule.{Operator, constant, atom, negation, conjunction, disjunction, next, release, operatorOf}
 use Rattle.ctl.proofs.Tabulate.{length-tabulate, getD-tabulate}
-use Rattle.circuit.specs.Variables.{Var, step, kept, node, edge, ahead, either, level, below, concat, stepsOut, levelVariables, nodeVariables, variables, variableCount}
+use Rattle.circuit.specs.Variables.{Var, step, kept, node, edge, ahead, either, level, concat, stepsOut, levelVariables, nodeVariables, variables, variableCount}
 use Rattle.circuit.specs.Gates.{gates}
 use Rattle.circuit.proofs.Lists.{Each, each-more, each-one, each-append, each-map, each-over, in-out}
 use Rattle.circuit.proofs.NoRepeat.{NoRepeat, no-repeat-at, no-repeat-append, no-repeat-map, no-repeat-each, no-repeat-over, no-repeat-out}
 use Rattle.circuit.proofs.Outputs.{outputs, variables-outputs}
+use Rattle.ctl.specs.Levels.{below}
 
 -- ---- what tells variables apart
 

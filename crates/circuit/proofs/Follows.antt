@@ -5,8 +5,8 @@ use native.Mathlib.Omega.{arith}
 use mathlib.Core.Path.{_≡_, refl, sym, subst}
 use mathlib.Core.Logic.{_⊎_, inl, inr, ⊎-elim, ⊎-map}
 use mathlib.Core.List.{List, [], _∷_, _++_, map, List·Memᴰ, List·Memᴰ·head, List·Memᴰ·tail, List·Memᴰ·not-nil, List·Memᴰ·cases-cons}
-use Rattle.ctl.specs.Levels.{tabulate}
-use Rattle.circuit.specs.Variables.{Var, below, concat}
+use Rattle.ctl.specs.Levels.{tabulate, below}
+use Rattle.circuit.specs.Variables.{Var, concat}
 use Rattle.circuit.specs.Gates.{Defined}
 use Rattle.circuit.proofs.Lists.{Each, each-none, each-more}
 use Rattle.circuit.proofs.Gate.{Reads}

@@ -2,18 +2,17 @@
 use Prim.Native.Nat.{ℕ, zero, suc, _+_, _<_, zero-le, suc-le-suc}
 use native.Mathlib.Nat.{not-suc-le-zero, le-of-suc-le-suc}
 use native.Mathlib.Omega.{arith}
-use mathlib.Core.Path.{_≡_, refl, sym, ap, subst, _∙_}
-use mathlib.Core.Bool.{Bool, true, false, cond, false≢true}
-use mathlib.Core.Logic.{_↔_, _⊎_, inl, inr, ⊎-elim, ⊎-map}
+use mathlib.Core.Path.{_≡_, refl, sym, subst}
+use mathlib.Core.Logic.{_↔_, inl, inr, ⊎-elim}
 use mathlib.Core.List.{List, [], _∷_, _++_, map, List·Memᴰ, List·Memᴰ·head, List·Memᴰ·tail, List·Memᴰ·not-nil, List·Memᴰ·cases-cons, List·Memᴰ·append-cases, Memᴰ·map, Memᴰ·of-map, Memᴰ·append-left, Memᴰ·append-right}
 use borrow.Author.Tests.{eqb-true, eq-eqb}
 use lib.Dec.{eqb}
 use lib.ListN.{length, getD}
 use Rattle.table.specs.declared.record.Step.{Step}
 use Rattle.table.specs.Table.{Table, stepAt}
-use Rattle.ctl.proofs.Tabulate.{member-tabulate, tabulate-member}
-use Rattle.circuit.specs.Variables.{below, concat, outOf, stepsOut}
-use Rattle.circuit.specs.Clauses.{select}
+use Rattle.circuit.specs.Variables.{concat, outOf, stepsOut}
+use Rattle.ctl.specs.Levels.{below}
+use Rattle.ctl.proofs.Select.{in-cond, in-below}
 
 -- ---- what each element has
 
@@ -59,10 +58,6 @@ in-concat {A} {x} {xs} (ys ∷ yss) m i = ⊎-elim
 
 -- ---- a list for each number below n
 
--- the numbers below n
-pub in-below : (n k : ℕ) → List·Memᴰ k (below n) ↔ (k < n)
-in-below n k = (λ m. let r = tabulate-member n (λ k. k) m in rw (r .2) (r .1), member-tabulate n (λ k. k) k)
-
 module _ {A : Type 0} (n : ℕ) (f : ℕ → List A) where
   -- what each element of each list has
   pub each-over : (P : A → Type 0) → ((k : ℕ) → k < n → Each P (f k)) → Each P (concat (map f (below n)))
@@ -71,25 +66,6 @@ module _ {A : Type 0} (n : ℕ) (f : ℕ → List A) where
   -- an element of one of the lists
   pub in-over : {x : A} (k : ℕ) → k < n → List·Memᴰ x (f k) → List·Memᴰ x (concat (map f (below n)))
   in-over k h m = in-concat (map f (below n)) m (Memᴰ·map f (in-below n k .1 h))
-
--- ---- selected numbers
-
--- an element more in front where a test passes
-in-cond : {A : Type 0} {y : A} (b : Bool) (x : A) (xs : List A) → List·Memᴰ y (cond b (x ∷ xs) xs) ↔ (((b ≡ true) × (y ≡ x)) ⊎ List·Memᴰ y xs)
-in-cond true x xs = (λ m. ⊎-map (λ e. (refl, e)) (λ r. r) (List·Memᴰ·cases-cons m), ⊎-elim (λ r. List·Memᴰ·head (r .1)) List·Memᴰ·tail)
-in-cond false x xs = (inr, ⊎-elim (λ r. absurd (false≢true (r .0))) (λ m. m))
-
--- those of the numbers that have p
-pub in-select : (p : ℕ → Bool) (ks : List ℕ) (k : ℕ) → List·Memᴰ k (select p ks) ↔ (List·Memᴰ k ks × (p k ≡ true))
-unfolding select
-in-select p [] k = (λ m. absurd (List·Memᴰ·not-nil m), λ r. r .0)
-in-select p (x ∷ ks) k = (
-  λ m. ⊎-elim
-      (λ r. (List·Memᴰ·head (r .1), ap p (r .1) ∙ r .0))
-      (λ m′. let r = in-select p ks k .0 m′ in (List·Memᴰ·tail (r .0), r .1))
-      (in-cond (p x) x (select p ks) .0 m),
-  λ r. in-cond (p x) x (select p ks) .1 (⊎-map (λ e. (sym (ap p e) ∙ r .1, e)) (λ m. in-select p ks k .1 (m, r .1)) (List·Memᴰ·cases-cons (r .0))),
-)
 
 -- ---- the steps out of a state
 

@@ -9,9 +9,9 @@ use mathlib.Core.List.{List, [], _∷_, _++_, map, List·Memᴰ, List·Memᴰ·h
 use lib.Dec.{eqb}
 use lib.ListN.{length, getD}
 use Rattle.table.specs.declared.record.Step.{Step}
-use Rattle.ctl.specs.Levels.{tabulate}
+use Rattle.ctl.specs.Levels.{tabulate, below}
 use Rattle.ctl.proofs.Tabulate.{tabulate-member}
-use Rattle.circuit.specs.Variables.{below, concat, outOf}
+use Rattle.circuit.specs.Variables.{concat, outOf}
 use Rattle.circuit.proofs.Lists.{Each, each-map, each-concat, out-place}
 
 -- no element stands twice

@@ -7,9 +7,10 @@ use lib.ListN.{length}
 use Rattle.table.specs.Table.{Table, nodeAt}
 use Rattle.ctl.specs.Rule.{Quantifier, Operator, constant, atom, negation, conjunction, disjunction, next, release, operatorOf}
 use Rattle.circuit.specs.Logic.{Gate}
-use Rattle.circuit.specs.Variables.{Var, step, kept, node, edge, level, below, concat, stepsOut, value, nodeVariables, variables}
+use Rattle.circuit.specs.Variables.{Var, step, kept, node, edge, level, concat, stepsOut, value, nodeVariables, variables}
 use Rattle.circuit.specs.Gates.{Defined, is, edges, levelGates, atStates, nodeGates, keptGates, gates}
-use Rattle.circuit.proofs.Lists.{in-below}
+use Rattle.ctl.proofs.Select.{in-below}
+use Rattle.ctl.specs.Levels.{below}
 
 -- the outputs of gates
 abbrev pub outputs : List Defined → List Var

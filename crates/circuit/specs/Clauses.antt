@@ -1,22 +1,17 @@
 -- The clauses of a table: those of its gates, in their order, and then the demands. 01, "The net", last item of the list.
 use Prim.Native.Nat.{ℕ}
-use mathlib.Core.Bool.{Bool, cond}
 use mathlib.Core.List.{List, [], _∷_, _++_, map}
 use lib.ListN.{length}
 use lib.Dec.{eqb}
 use Rattle.table.specs.Table.{Table, stateAt, stepAt}
 use Rattle.ctl.specs.Rule.{rootIndex}
 use Rattle.circuit.specs.Logic.{Literal, pos, neg, gateClauses}
-use Rattle.circuit.specs.Variables.{Var, step, kept, below, concat, value}
+use Rattle.circuit.specs.Variables.{Var, step, kept, concat, value}
 use Rattle.circuit.specs.Gates.{gates}
+use Rattle.ctl.specs.Levels.{below, select}
 
 abbrev pub Clause : Type 0
 Clause = List (Literal Var)
-
--- those of the numbers that have p
-unfoldable pub select : (ℕ → Bool) → List ℕ → List ℕ
-select p [] = []
-select p (k ∷ ks) = cond (p k) (k ∷ select p ks) (select p ks)
 
 module _ (T : Table) where
   -- the initial states, ascending

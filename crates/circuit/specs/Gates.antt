@@ -7,7 +7,8 @@ use Rattle.sets.specs.Member.{member}
 use Rattle.table.specs.Table.{Table, stateAt, stepAt, nodeAt}
 use Rattle.ctl.specs.Rule.{Quantifier, every, some, Operator, constant, atom, negation, conjunction, disjunction, next, release, operatorOf}
 use Rattle.circuit.specs.Logic.{Literal, pos, neg, Gate, all, any}
-use Rattle.circuit.specs.Variables.{Var, step, kept, node, edge, ahead, either, level, below, concat, stepsOut, value}
+use Rattle.circuit.specs.Variables.{Var, step, kept, node, edge, ahead, either, level, concat, stepsOut, value}
+use Rattle.ctl.specs.Levels.{below}
 
 -- a variable with its gate
 pub record Defined : Type 0 where

@@ -9,7 +9,7 @@ use Rattle.table.specs.declared.record.Node.{Node}
 use Rattle.table.specs.declared.record.Step.{Step}
 use Rattle.table.specs.Table.{Table, nodeAt}
 use Rattle.ctl.specs.Rule.{Operator, constant, atom, negation, conjunction, disjunction, next, release, operatorOf}
-use Rattle.ctl.specs.Levels.{tabulate}
+use Rattle.ctl.specs.Levels.{below}
 
 -- Constructors tell variables apart, so no numbering has to be shown one to one; a variable's number is its place in `variables`.
 pub data Var : Type 0 where
@@ -25,10 +25,6 @@ pub data Var : Type 0 where
   ahead : ℕ → ℕ → ℕ → Var
   either : ℕ → ℕ → ℕ → Var
   level : ℕ → ℕ → ℕ → Var
-
--- 0, .., n - 1
-abbrev pub below : ℕ → List ℕ
-below n = tabulate n (λ k. k)
 
 unfoldable pub concat : {A : Type 0} → List (List A) → List A
 concat [] = []

@@ -1,4 +1,5 @@
 pub mod Tabulate
+pub mod Select
 pub mod Stable
 pub mod Paths
 pub mod Rank

@@ -5,7 +5,7 @@ use native.Mathlib.Omega.{arith}
 use mathlib.Core.Path.{_≡_, refl, sym, _∙_}
 use mathlib.Core.Bool.{Bool, true, false, not, _||_, false≢true, and-eq-true-iff}
 use mathlib.Core.Logic.{_↔_, Iff·trans, Iff·and, Dec·of-iff}
-use mathlib.Core.List.{List, [], _∷_, List·Memᴰ}
+use mathlib.Core.List.{List, [], _∷_}
 use borrow.Author.Tests.{eqb-true, eq-eqb, leb-true, le-leb}
 use lib.Dec.{eqb, leb}
 use lib.ListN.{length, getD}
@@ -21,33 +21,27 @@ use Rattle.ctl.specs.Kept.{Initial, IsList, Kept, Total, NodeHolds, Repa
 use Rattle.ctl.specs.Rank.{First}
 use Rattle.ctl.specs.Labels.{keptSteps, marked}
 use Rattle.ctl.specs.Tests.{states, isTotal, isInitialKept, keepsInitial, rootMarked, repairVerdict, judgeVerdict}
-use Rattle.ctl.proofs.Tabulate.{member-tabulate, tabulate-member, all-true, any-true}
+use Rattle.ctl.proofs.Tabulate.{all-true, any-true}
+use Rattle.ctl.proofs.Select.{in-below}
 use Rattle.ctl.proofs.Rank.{first-unique}
 use Rattle.ctl.proofs.Targets.{kept-step-next, next-kept-step, is-kept}
 use Rattle.ctl.proofs.Meaning.{labels-are-meaning}
 
 -- ---- tests of all states
 
--- the states are the numbers below n
-state-member : (T : Table) (s : ℕ) → List·Memᴰ s (states T) ↔ (s < length (T .states))
-state-member T s = (
-  λ m. let r = tabulate-member (length (T .states)) (λ k. k) m in rw (r .2) (r .1),
-  member-tabulate (length (T .states)) (λ k. k) s,
-)
-
 module _ (T : Table) (p : ℕ → Bool) where
   -- a test passes at every state
   pub all-states : (all p (states T) ≡ true) ↔ ((s : ℕ) → s < length (T .states) → p s ≡ true)
   all-states = (
-    λ e s h. all-true p (states T) .0 e s (state-member T s .1 h),
-    λ k. all-true p (states T) .1 (λ s m. k s (state-member T s .0 m)),
+    λ e s h. all-true p (states T) .0 e s (in-below (length (T .states)) s .1 h),
+    λ k. all-true p (states T) .1 (λ s m. k s (in-below (length (T .states)) s .0 m)),
   )
 
   -- a test passes at some state
   pub any-states : (any p (states T) ≡ true) ↔ ((s : ℕ) × (s < length (T .states)) × (p s ≡ true))
   any-states = (
-    λ e. let r = any-true p (states T) .0 e in (r .0, state-member T (r .0) .0 (r .1), r .2),
-    λ r. any-true p (states T) .1 (r .0, state-member T (r .0) .1 (r .1), r .2),
+    λ e. let r = any-true p (states T) .0 e in (r .0, in-below (length (T .states)) (r .0) .0 (r .1), r .2),
+    λ r. any-true p (states T) .1 (r .0, in-below (length (T .states)) (r .0) .1 (r .1), r .2),
   )
 
 -- ---- the tests

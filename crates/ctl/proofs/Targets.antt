@@ -3,9 +3,9 @@ use Prim.Native.Nat.{ℕ, zero, suc, _<_, zero-le, suc-le-suc}
 use native.Mathlib.Nat.{le-of-suc-le-suc, not-suc-le-zero}
 use native.Mathlib.Omega.{arith}
 use mathlib.Core.Path.{_≡_, refl, sym, ap}
-use mathlib.Core.Bool.{Bool, true, false, cond, false≢true}
-use mathlib.Core.Logic.{_↔_, _⊎_, inr, ⊎-elim, ⊎-map}
-use mathlib.Core.List.{List, [], _∷_, List·Memᴰ, List·Memᴰ·head, List·Memᴰ·tail, List·Memᴰ·not-nil, List·Memᴰ·cases-cons}
+use mathlib.Core.Bool.{true, false≢true}
+use mathlib.Core.Logic.{_↔_, inr, ⊎-elim, inl}
+use mathlib.Core.List.{List, [], _∷_, List·Memᴰ, List·Memᴰ·head, List·Memᴰ·tail, List·Memᴰ·not-nil}
 use borrow.Author.Tests.{eqb-true, eq-eqb}
 use lib.Dec.{eqb}
 use lib.ListN.{length, getD}
@@ -14,20 +14,7 @@ use Rattle.table.specs.Table.{Table, stepAt}
 use Rattle.table.specs.Facts.{Wellformed}
 use Rattle.ctl.specs.Kept.{Next, Kept}
 use Rattle.ctl.specs.Labels.{keptSteps, endsFrom, targets, nonempty, isKept}
-
--- ---- a list with one element more in front where a test passes
-
-module _ {A : Type 0} where
-  cond-cases : {y : A} (b : Bool) (x : A) (xs : List A) → List·Memᴰ y (cond b (x ∷ xs) xs) → ((b ≡ true) × (y ≡ x)) ⊎ List·Memᴰ y xs
-  cond-cases true x xs m = ⊎-map (λ e. (refl, e)) (λ r. r) (List·Memᴰ·cases-cons m)
-  cond-cases false x xs m = inr m
-
-  cond-head : {y : A} (b : Bool) (x : A) (xs : List A) → b ≡ true → y ≡ x → List·Memᴰ y (cond b (x ∷ xs) xs)
-  cond-head b x xs e h = rw e (List·Memᴰ·head h)
-
-  cond-tail : {y : A} (b : Bool) (x : A) (xs : List A) → List·Memᴰ y xs → List·Memᴰ y (cond b (x ∷ xs) xs)
-  cond-tail true x xs m = List·Memᴰ·tail m
-  cond-tail false x xs m = m
+use Rattle.ctl.proofs.Select.{in-cond}
 
 -- ---- the kept steps
 
@@ -44,15 +31,15 @@ kept-place (x ∷ xs) [] m = absurd (List·Memᴰ·not-nil m)
 kept-place (x ∷ xs) (b ∷ bits) m = ⊎-elim
     (λ r. (zero, suc-le-suc zero-le, eqb-true b 1 (r .0), sym (r .1)))
     (λ m′. let r = kept-place xs bits m′ in (suc (r .0), suc-le-suc (r .1), r .2, r .3))
-    (cond-cases (eqb b 1) x (keptSteps xs bits) m)
+    (in-cond (eqb b 1) x (keptSteps xs bits) .0 m)
 
 -- the step at a place that the list keeps is a kept step
 place-kept : (xs : List Step) (bits : List ℕ) (j : ℕ) → j < length xs → getD bits j 0 ≡ 1 → List·Memᴰ (getD xs j zeroStep) (keptSteps xs bits)
 unfolding keptSteps
 place-kept [] bits j h e = absurd (not-suc-le-zero h)
 place-kept (x ∷ xs) [] j h e = absurd (omega arith)
-place-kept (x ∷ xs) (b ∷ bits) zero h e = cond-head (eqb b 1) x _ (eq-eqb b 1 e) refl
-place-kept (x ∷ xs) (b ∷ bits) (suc j) h e = cond-tail (eqb b 1) x _ (place-kept xs bits j (le-of-suc-le-suc h) e)
+place-kept (x ∷ xs) (b ∷ bits) zero h e = in-cond (eqb b 1) x _ .1 (inl (eq-eqb b 1 e, refl))
+place-kept (x ∷ xs) (b ∷ bits) (suc j) h e = in-cond (eqb b 1) x _ .1 (inr (place-kept xs bits j (le-of-suc-le-suc h) e))
 
 -- a kept step leads from its one end to the other
 pub kept-step-next : (T : Table) (list : List ℕ) (x : Step) → List·Memᴰ x (keptSteps (T .steps) list) → Next T list (x .from) (x .to)
@@ -73,13 +60,13 @@ ends-step [] s m = absurd (List·Memᴰ·not-nil m)
 ends-step (x ∷ xs) s m = ⊎-elim
     (λ r. (x, List·Memᴰ·head refl, eqb-true (x .from) s (r .0), sym (r .1)))
     (λ m′. let r = ends-step xs s m′ in (r .0, List·Memᴰ·tail (r .1), r .2, r .3))
-    (cond-cases (eqb (x .from) s) (x .to) (endsFrom xs s) m)
+    (in-cond (eqb (x .from) s) (x .to) (endsFrom xs s) .0 m)
 
 step-ends : (s t : ℕ) {x : Step} {xs : List Step} → List·Memᴰ x xs → x .from ≡ s → x .to ≡ t → List·Memᴰ t (endsFrom xs s)
 unfolding endsFrom
 step-ends s t (List·Memᴰ·head {x = y} {xs = ys} e) f g =
-    cond-head (eqb (y .from) s) (y .to) _ (eq-eqb (y .from) s (cc)) (cc)
-step-ends s t (List·Memᴰ·tail {x = y} {xs = ys} m) f g = cond-tail (eqb (y .from) s) (y .to) _ (step-ends s t m f g)
+    in-cond (eqb (y .from) s) (y .to) _ .1 (inl (eq-eqb (y .from) s (cc), cc))
+step-ends s t (List·Memᴰ·tail {x = y} {xs = ys} m) f g = in-cond (eqb (y .from) s) (y .to) _ .1 (inr (step-ends s t m f g))
 
 -- each of the targets of s is a next state of s
 pub targets-sound : (T : Table) (list : List ℕ) (s t : ℕ) → List·Memᴰ t (targets T list s) → Next T list s t

@@ -1,7 +1,7 @@
 -- Sets of states that compute, and the levels of a fixed-point kind. A set of n states is the list of its n marks.
 use Prim.Native.Nat.{ℕ, zero, suc}
 use mathlib.Core.Path.{_≡_}
-use mathlib.Core.Bool.{Bool, true, false, _&&_, _||_}
+use mathlib.Core.Bool.{Bool, true, false, cond, _&&_, _||_}
 use mathlib.Core.List.{List, [], _∷_}
 use lib.ListN.{getD}
 use Rattle.table.specs.Accept.{all, any}
@@ -18,6 +18,15 @@ Subset X Y = (s : ℕ) → has X s ≡ true → has Y s ≡ true
 unfoldable pub tabulate {ℓ} : {A : Type ℓ} → ℕ → (ℕ → A) → List A
 tabulate zero f = []
 tabulate (suc n) f = f zero ∷ tabulate n (λ k. f (suc k))
+
+-- 0, .., n - 1
+abbrev pub below : ℕ → List ℕ
+below n = tabulate n (λ k. k)
+
+-- those of the numbers that have p
+unfoldable pub select : (ℕ → Bool) → List ℕ → List ℕ
+select p [] = []
+select p (k ∷ ks) = cond (p k) (k ∷ select p ks) (select p ks)
 
 unfoldable pub iterate : (List Bool → List Bool) → List Bool → ℕ → List Bool
 iterate F X zero = X

@@ -10,11 +10,11 @@ use Rattle.table.specs.Verdict.{require, _then_}
 use Rattle.table.specs.Table.{Table, tableOf, stateAt}
 use Rattle.table.specs.Accept.{all, any, tableVerdict, listVerdict}
 use Rattle.ctl.specs.Rule.{rootIndex}
-use Rattle.ctl.specs.Levels.{tabulate}
+use Rattle.ctl.specs.Levels.{below}
 use Rattle.ctl.specs.Labels.{keptSteps, isKept, marked}
 
 abbrev pub states : Table → List ℕ
-states T = tabulate (length (T .states)) (λ s. s)
+states T = below (length (T .states))
 
 -- 11: each kept step ends in a kept state
 abbrev pub isTotal : Table → List ℕ → Bool

@@ -13,11 +13,11 @@ use Rattle.table.specs.Table.{Table}
 use Rattle.table.specs.Facts.{Wellformed}
 use Rattle.ctl.specs.Rule.{rootIndex}
 use Rattle.ctl.specs.Labels.{marked}
-use Rattle.ctl.proofs.Tabulate.{member-tabulate}
 use Rattle.ctl.proofs.Targets.{next-inside}
 use Rattle.ctl.proofs.Meaning.{marked-kept}
 use Rattle.label.specs.Calls.{heldStates}
-use Rattle.label.proofs.Select.{selected, select-has, select-count, select-ascending, tabulate-ascending, getD-member, ascending-at}
+use Rattle.ctl.proofs.Select.{in-below, in-select}
+use Rattle.label.proofs.Select.{select-count, select-ascending, tabulate-ascending, getD-member, ascending-at}
 
 -- there are as many of them as the root marks
 pub held-count : (T : Table) (list : List ℕ) → length (heldStates T list) ≡ countOf 32 (marked T list (rootIndex T))
@@ -49,8 +49,8 @@ module _ (T : Table) (wf : Wellformed T) (list : List ℕ) where
   -- they are the states that the root marks
   pub held-member : (s : ℕ) → List·Memᴰ s (heldStates T list) ↔ (marked T list (rootIndex T) s ≡ true)
   held-member s = (
-    λ m. selected (marked T list (rootIndex T)) _ m .1,
-    λ e. select-has (marked T list (rootIndex T)) (member-tabulate 32 (λ s. s) s (lt-of-lt-of-le (root-inside s e) (wf .few-states))) e,
+    λ m. in-select (marked T list (rootIndex T)) _ s .0 m .1,
+    λ e. in-select (marked T list (rootIndex T)) _ s .1 (in-below 32 s .1 (lt-of-lt-of-le (root-inside s e) (wf .few-states)), e),
   )
 
   -- each of them is one of the table's states

@@ -10,9 +10,9 @@ use lib.Dec.{eqb}
 use Rattle.sets.specs.Member.{member, setOf, lowestOf}
 use Rattle.sets.proofs.SetOf.{member-setOf-below, some-member, lowestOf-has, lowestOf-least}
 use Rattle.sets.proofs.Laws.{member-zero}
-use Rattle.ctl.specs.Levels.{tabulate}
+use Rattle.ctl.specs.Levels.{tabulate, select}
 use Rattle.ctl.proofs.Tabulate.{member-tabulate, tabulate-member}
-use Rattle.label.specs.Calls.{select, statesWith}
+use Rattle.label.specs.Calls.{statesWith}
 use Rattle.label.proofs.Select.{Ascending, tabulate-ascending}
 
 -- tests that agree on a list select the same

@@ -2,39 +2,17 @@
 use Prim.Native.Nat.{ℕ, zero, suc, _+_, _<_}
 use mathlib.Core.Path.{_≡_, refl, sym, ap, _∙_}
 use mathlib.Core.Bool.{Bool, true, false, cond}
-use mathlib.Core.Logic.{⊎-elim}
-use mathlib.Core.List.{List, [], _∷_, List·Memᴰ, List·Memᴰ·head, List·Memᴰ·tail, List·Memᴰ·not-nil, List·Memᴰ·cases-cons}
+use mathlib.Core.List.{List, [], _∷_, List·Memᴰ, List·Memᴰ·head, List·Memᴰ·tail}
 use native.Mathlib.Nat.{not-suc-le-zero, le-of-suc-le-suc}
 use native.Mathlib.Omega.{arith}
 use lib.ListN.{length, getD}
 use Rattle.sets.specs.Member.{countOf}
 use Rattle.sets.proofs.SetOf.{countOf-low}
-use Rattle.ctl.specs.Levels.{tabulate}
+use Rattle.ctl.specs.Levels.{tabulate, select}
+use Rattle.ctl.proofs.Select.{in-select}
 use Rattle.ctl.proofs.Tabulate.{tabulate-member}
-use Rattle.label.specs.Calls.{select}
 
 module _ (p : ℕ → Bool) where
-  -- a selected number stands in the list and has p
-  pub selected : {s : ℕ} (ks : List ℕ) → List·Memᴰ s (select p ks) → List·Memᴰ s ks × (p s ≡ true)
-  unfolding select
-  selected [] m = absurd (List·Memᴰ·not-nil m)
-  selected {s} (j ∷ ks) m = go (p j) refl m (selected ks)
-    where
-      go : (b : Bool) → p j ≡ b → List·Memᴰ s (cond b (j ∷ select p ks) (select p ks)) → (List·Memᴰ s (select p ks) → List·Memᴰ s ks × (p s ≡ true))
-          → List·Memᴰ s (j ∷ ks) × (p s ≡ true)
-      go true e m rest = ⊎-elim (λ h. (List·Memᴰ·head h, ap p h ∙ e)) (λ t. (List·Memᴰ·tail (rest t .0), rest t .1)) (List·Memᴰ·cases-cons m)
-      go false e m rest = (List·Memᴰ·tail (rest m .0), rest m .1)
-
-  -- a number of the list that has p is selected
-  pub select-has : {s : ℕ} {ks : List ℕ} → List·Memᴰ s ks → p s ≡ true → List·Memᴰ s (select p ks)
-  unfolding select
-  select-has (List·Memᴰ·head h) e = rw (sym (ap p h) ∙ e) (List·Memᴰ·head h)
-  select-has {s} (List·Memᴰ·tail {x = j} {xs = ks} m) e = go (p j) (select-has m e)
-    where
-      go : (b : Bool) → List·Memᴰ s (select p ks) → List·Memᴰ s (cond b (j ∷ select p ks) (select p ks))
-      go true m = List·Memᴰ·tail m
-      go false m = m
-
   -- as many of f 0, .., f (n - 1) are selected as have p
   pub select-count : (n : ℕ) (f : ℕ → ℕ) → length (select p (tabulate n f)) ≡ countOf n (λ s. p (f s))
   unfolding select tabulate countOf
@@ -61,7 +39,7 @@ select-ascending p [] a = tt
 select-ascending p (j ∷ ks) a = go (p j) (select-ascending p ks (a .1))
   where
     go : (b : Bool) → Ascending (select p ks) → Ascending (cond b (j ∷ select p ks) (select p ks))
-    go true r = (λ y m. a .0 y (selected p ks m .0), r)
+    go true r = (λ y m. a .0 y (in-select p ks y .0 m .0), r)
     go false r = r
 
 pub tabulate-ascending : (n : ℕ) (f : ℕ → ℕ) → ((i j : ℕ) → i < j → f i < f j) → Ascending (tabulate n f)

@@ -1,14 +1,14 @@
 -- 01, calls 3 and 4: what Label and Holding answer, and what every lent entry holds afterwards.
 use Prim.Native.Nat.{ℕ}
-use mathlib.Core.Bool.{Bool, cond}
-use mathlib.Core.List.{List, [], _∷_, _++_}
+use mathlib.Core.Bool.{Bool}
+use mathlib.Core.List.{List, _++_}
 use lib.ListN.{length, take, drop}
 use Rattle.table.specs.declared.refusal.Verdict.{Verdict}
 use Rattle.table.specs.declared.refusal.Verdict.the-variants.{Accepted, Refused}
 use Rattle.table.specs.Verdict.{refusalNumber}
 use Rattle.table.specs.Table.{Table, tableOf}
 use Rattle.ctl.specs.Rule.{rootIndex}
-use Rattle.ctl.specs.Levels.{tabulate}
+use Rattle.ctl.specs.Levels.{below, select}
 use Rattle.ctl.specs.Labels.{marked}
 use Rattle.label.specs.declared.analysis.Room.the-variants.{Nodes, States}
 use Rattle.label.specs.declared.holding.Holding.{Holding}
@@ -32,14 +32,9 @@ abbrev pub labelBuffer : List ℕ → List ℕ → List ℕ → List ℕ
 labelBuffer table list buffer =
     onAccepted (labelVerdict table list (length buffer)) (over (length (tableOf table .nodes)) (labelWords (tableOf table) list) buffer) buffer
 
--- those of the numbers that have p
-unfoldable pub select : (ℕ → Bool) → List ℕ → List ℕ
-select p [] = []
-select p (k ∷ ks) = cond (p k) (k ∷ select p ks) (select p ks)
-
 -- the states that have p. Their order is this definition's: ascending
 abbrev pub statesWith : (ℕ → Bool) → List ℕ
-statesWith p = select p (tabulate 32 (λ s. s))
+statesWith p = select p (below 32)
 
 -- Holding: the states of the root's set
 abbrev pub heldStates : Table → List ℕ → List ℕ

@@ -10,7 +10,7 @@ use Rattle.table.specs.declared.record.Node.{Node}
 use Rattle.table.specs.Table.{stateWidth, stateOf}
 use Rattle.table.specs.Accept.{all}
 use Rattle.ctl.specs.Rule.{Quantifier, every, some, Operator, constant, atom, negation, conjunction, disjunction, next, release, operatorOf}
-use Rattle.ctl.specs.Levels.{tabulate}
+use Rattle.ctl.specs.Levels.{below}
 use Rattle.label.specs.declared.release.Quantifier as Declared
 use Rattle.label.specs.declared.release.Quantifier.the-variants.{Every, Some}
 
@@ -46,7 +46,7 @@ keptWord rows n = setOf n (λ s. not (eqb (getD rows s 0) 0))
 
 -- every next state of every state is kept
 abbrev pub totalRows : List ℕ → ℕ → Bool
-totalRows rows kept = all (λ s. eqb (setOf 32 (λ t. member (getD rows s 0) t && not (member kept t))) 0) (tabulate 32 (λ s. s))
+totalRows rows kept = all (λ s. eqb (setOf 32 (λ t. member (getD rows s 0) t && not (member kept t))) 0) (below 32)
 
 -- read off the section of the states: the initial states, and those with p in their label
 abbrev pub initialWord : List ℕ → ℕ → ℕ

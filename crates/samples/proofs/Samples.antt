@@ -5,13 +5,13 @@ use Rattle.sets.specs.Member.{member}
 use Rattle.table.specs.Table.{records}
 use Rattle.table.specs.Accept.{all, any, distinct, nodesFit, tableVerdict, listVerdict}
 use Rattle.ctl.specs.Rule.{bottomUp}
-use Rattle.ctl.specs.Levels.{tabulate, iterate, nextIn, level, levels}
+use Rattle.ctl.specs.Levels.{tabulate, iterate, nextIn, level, levels, select}
 use Rattle.ctl.specs.Labels.{keptSteps, endsFrom, labelOf, label}
 use Rattle.ctl.specs.Tests.{judgeVerdict}
 use Rattle.circuit.specs.Logic.{gateClauses}
 use Rattle.circuit.specs.Variables.{concat, outOf, nodeVariables, variables}
 use Rattle.circuit.specs.Gates.{nodeGates, gates}
-use Rattle.circuit.specs.Clauses.{select, demands, clauses}
+use Rattle.circuit.specs.Clauses.{demands, clauses}
 use Rattle.search.specs.Closure.{open-in, take-clause, round, rounds, marksOf}
 use Rattle.search.specs.Search.{walk, search}
 use Rattle.search.specs.Numbered.{sameCode, place, numberedClauses, tableSearch}

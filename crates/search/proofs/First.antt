@@ -8,7 +8,6 @@ use mathlib.Core.List.{List, [], _∷_, List·Memᴰ·head, List·Memᴰ·tail}
 use lib.ListN.{getD}
 use Rattle.ctl.specs.Rank.{RanksBefore, First}
 use Rattle.circuit.specs.Logic.{Literal, pos, neg}
-use Rattle.circuit.specs.Variables.{below}
 use Rattle.search.specs.Closure.{Marks, markAt, isKnown, Progress, clash, marked}
 use Rattle.search.specs.Search.{Outcome, found, none, spent, uncapped, choose, walk, search}
 use Rattle.search.proofs.Step.{chosen, orElse, walk-known, walk-unknown}
@@ -17,6 +16,7 @@ use Rattle.search.specs.Numbered.{bytesOf}
 use Rattle.search.proofs.Agree.{AgreesWith, member-none, member-more, Among}
 use Rattle.search.proofs.Needs.{ClosureIsRight}
 use Rattle.search.proofs.Stand.{Stands, stands-first, stands-next, fine-choice, stands-choice, settled-same, all-settled}
+use Rattle.ctl.specs.Levels.{below}
 
 -- an answer that is right of the models that agree with P: the first of them, or that there is none
 abbrev pub Answers : ℕ → (List ℕ → Type 0) → List (Literal ℕ) → Outcome → Type 0

@@ -4,8 +4,7 @@ use native.Mathlib.Decide.{ℕ-discrete}
 use native.Mathlib.Omega.{arith}
 use mathlib.Core.Path.{_≡_, refl}
 use mathlib.Core.List.{List, [], _∷_}
-use Rattle.ctl.specs.Levels.{tabulate}
-use Rattle.circuit.specs.Variables.{below}
+use Rattle.ctl.specs.Levels.{tabulate, below}
 
 -- k, .., k + n - 1
 unfoldable pub upFrom : ℕ → ℕ → List ℕ

@@ -12,7 +12,7 @@ use lib.ListN.{length, getD, length-append, length-map}
 use Rattle.table.specs.Table.{Table}
 use Rattle.table.specs.Facts.{Wellformed}
 use Rattle.ctl.proofs.Tabulate.{length-tabulate}
-use Rattle.circuit.specs.Variables.{Var, step, kept, node, edge, ahead, either, level, below, variables, variableCount}
+use Rattle.circuit.specs.Variables.{Var, step, kept, node, edge, ahead, either, level, variables, variableCount}
 use Rattle.circuit.specs.Gates.{gates}
 use Rattle.circuit.specs.Clauses.{clauses}
 use Rattle.circuit.proofs.Lists.{each-map}
@@ -22,6 +22,7 @@ use Rattle.circuit.proofs.Distinct.{variables-no-repeat, step-first}
 use Rattle.circuit.proofs.Covered.{clause-variables, clause-literal}
 use Rattle.search.specs.Numbered.{code, sameCode, place, numberedLiteral, numberedClauses}
 use Rattle.search.proofs.Given.{Within, Inside}
+use Rattle.ctl.specs.Levels.{below}
 
 -- ---- the code of a variable
 

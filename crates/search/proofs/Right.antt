@@ -3,13 +3,14 @@ use lib.ListN.{length}
 use Rattle.table.specs.Table.{Table}
 use Rattle.table.specs.Facts.{Wellformed}
 use Rattle.ctl.proofs.Tabulate.{length-tabulate}
-use Rattle.circuit.specs.Variables.{below, variableCount}
+use Rattle.circuit.specs.Variables.{variableCount}
 use Rattle.search.specs.Closure.{closure}
 use Rattle.search.specs.Numbered.{numberedClauses, tableSearch}
 use Rattle.search.specs.Right.{SearchIsRight}
 use Rattle.search.proofs.Cap.{search-unspent, search-cut, search-same, search-few}
 use Rattle.search.proofs.First.{search-none, search-found}
 use Rattle.search.proofs.ClosureRight.{closure-is-right}
+use Rattle.ctl.specs.Levels.{below}
 
 -- The search finds the first repair, or that there is none, and is cut at each cap.
 pub search-is-right : (T : Table) → Wellformed T → SearchIsRight T

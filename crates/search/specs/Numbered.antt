@@ -6,10 +6,11 @@ use lib.ListN.{length}
 use lib.Dec.{eqb}
 use Rattle.table.specs.Table.{Table}
 use Rattle.circuit.specs.Logic.{Literal}
-use Rattle.circuit.specs.Variables.{Var, step, kept, node, edge, ahead, either, level, below, variables, variableCount}
+use Rattle.circuit.specs.Variables.{Var, step, kept, node, edge, ahead, either, level, variables, variableCount}
 use Rattle.circuit.specs.Clauses.{clauses}
 use Rattle.search.specs.Closure.{Mark, Marks, unknown, known, markAt, closure}
 use Rattle.search.specs.Search.{Outcome, search, capped, uncapped}
+use Rattle.ctl.specs.Levels.{below}
 
 -- a variable as a list of numbers, to compare by
 abbrev pub code : Var → List ℕ
