@@ -24,6 +24,13 @@ static const uint8_t sample[36] = {
     0, 0, 0, 2, 0, 0, 9, 0, 1, 3, 2, 0, 8, 0, 3,
 };
 
+/* The same table as a sheet. */
+static const char sheet[] =
+    "states edges nodes props\n3 4 5 1\n"
+    "initial label\n1 0\n0 1\n0 1\n"
+    "from to\n0 1\n1 0\n1 2\n2 2\n"
+    "kind a b\n0 0 0\n2 0 0\n9 0 1\n3 2 0\n8 0 3\n";
+
 enum { GUARD8 = 0xA5 };
 #define GUARD32 0xA5A5A5A5u
 
@@ -51,6 +58,37 @@ static void holding(const char *what, const uint8_t *table, size_t table_len, co
     expect(what, counts[2], GUARD32);
     for (size_t i = 0; i < 40; i++)
         expect(what, buffer[i], i >= 2 && i < 2 + count ? states[i - 2] : GUARD8);
+}
+
+static void read_sheet(const char *what, const char *text, size_t text_len, size_t room, unsigned wanted)
+{
+    uint8_t buffer[48];
+    uint64_t length[3] = {GUARD32, GUARD32, GUARD32};
+    size_t written = wanted == 0 ? 36 : 0;
+    memset(buffer, GUARD8, sizeof buffer);
+    expect(what, fitter_read((const uint8_t *)text, text_len, buffer + 2, room, &length[1]), wanted);
+    expect(what, length[0] == GUARD32 && length[2] == GUARD32, 1);
+    expect(what, (unsigned)length[1], wanted == 0 ? 36 : GUARD32);
+    for (size_t i = 0; i < 48; i++)
+        expect(what, buffer[i], i >= 2 && i < 2 + written ? sample[i - 2] : GUARD8);
+}
+
+static void sheets(void)
+{
+    size_t whole = sizeof sheet - 1;
+    char text[sizeof sheet + 1];
+    read_sheet("read the sheet", sheet, whole, 36, 0);
+    read_sheet("read with room to spare", sheet, whole, 44, 0);
+    read_sheet("read a byte short", sheet, whole, 35, 10);
+    read_sheet("read into nothing", sheet, whole, 0, 10);
+    read_sheet("read nothing", NULL, 0, 36, 1);
+    for (size_t cut = 1; cut < whole; cut++)
+        read_sheet("read a part of the sheet", sheet, cut, 36, 1);
+    memcpy(text, sheet, whole);
+    text[whole] = '\n';
+    read_sheet("read one line more", text, whole + 1, 36, 1);
+    text[whole] = 0;
+    read_sheet("read one byte more", text, whole + 1, 36, 1);
 }
 
 static void samples(void)
@@ -112,6 +150,7 @@ static void refusals(void)
 
 int main(void)
 {
+    sheets();
     samples();
     refusals();
     printf("c calls: %d checks, %d failures\n", checks, failures);

@@ -28,6 +28,11 @@ uint32_t fitter_holding(const uint8_t *table, size_t table_len,
                         const uint8_t *list, size_t list_len,
                         uint8_t *out, size_t out_len, uint32_t *count);
 
+/* 0, the packed table of the sheet written and its length stored. Else 1, 3 to 8 or 10. At most 452 bytes are written; those past the
+ * table stay as they were. */
+uint32_t fitter_read(const uint8_t *text, size_t text_len,
+                     uint8_t *out, size_t out_len, uint64_t *length);
+
 #ifdef __cplusplus
 }
 #endif

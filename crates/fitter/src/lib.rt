@@ -1,11 +1,13 @@
 // The face of the fitter to C: every call answers a number, and leaves in every lent buffer what its contract says.
 use label::Holding;
+use sheet::Read;
 ghost use mathlib.Core.Path.{_≡_};
 ghost use lib.ListN.{length};
 ghost use Rattle.table.specs.Verdict.{verdictNumber};
 ghost use Rattle.ctl.specs.Tests.{judgeVerdict};
 ghost use Rattle.label.specs.Calls.{labelVerdict, labelBuffer, holdingAnswer, holdingBuffer, holdingNumber};
-ghost use Rattle.fitter.specs.Exports.{holdingCount};
+ghost use Rattle.sheet.specs.Read.{readAnswer, readBuffer, readNumber};
+ghost use Rattle.fitter.specs.Exports.{holdingCount, readLength};
 
 // 0 where the list is a repair of the table, else the refusal's number.
 #[no_mangle]
@@ -36,6 +38,22 @@ pub extern "C" fn fitter_holding(table: &[u8], list: &[u8], out: &mut [u8], coun
             *count = k;
             0
         }
-        Holding::Refuse(refusal) => table::refusal_number(refusal),
+        Holding::Refused(refusal) => table::refusal_number(refusal),
+    }
+}
+
+// 0, the packed table of the sheet written and its length stored, or the refusal's number and nothing written.
+#[no_mangle]
+pub extern "C" fn fitter_read(text: &[u8], out: &mut [u8], length: &mut u64) -> u32
+    ensures { λ r. ⌜ r ≡ readNumber (readAnswer (now (text .entry)) (now (out .entry))) ⌝ }
+    ensures { λ _. ⌜ now (out .exit) ≡ readBuffer (now (text .entry)) (now (out .entry)) ⌝ }
+    ensures { λ _. ⌜ now (length .exit) ≡ readLength (readAnswer (now (text .entry)) (now (out .entry))) (now (length .entry)) ⌝ }
+{
+    match sheet::read(text, out) {
+        Read::Length(k) => {
+            *length = k as u64;
+            0
+        }
+        Read::Refused(refusal) => table::refusal_number(refusal),
     }
 }

@@ -25,7 +25,8 @@ use Rattle.ctl.proofs.Tabulate.{length-tabulate, getD-tabulate}
 use Rattle.ctl.proofs.Targets.{next-inside}
 use Rattle.label.specs.declared.analysis.Room.the-variants.{Nodes}
 use Rattle.label.specs.Analysis.{labelWords}
-use Rattle.label.specs.Calls.{over, onAccepted, labelVerdict, labelBuffer}
+use Rattle.table.specs.Verdict.{onAccepted}
+use Rattle.label.specs.Calls.{over, labelVerdict, labelBuffer}
 use Rattle.label.proofs.Order.{table-accepted, total-accepted}
 
 -- a refusal leaves the buffer as it was

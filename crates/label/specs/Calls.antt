@@ -5,24 +5,19 @@ use mathlib.Core.List.{List, _++_}
 use lib.ListN.{length, take, drop}
 use Rattle.table.specs.declared.refusal.Verdict.{Verdict}
 use Rattle.table.specs.declared.refusal.Verdict.the-variants.{Accepted, Refused}
-use Rattle.table.specs.Verdict.{refusalNumber}
+use Rattle.table.specs.Verdict.{onAccepted, refusalNumber}
 use Rattle.table.specs.Table.{Table, tableOf}
 use Rattle.ctl.specs.Rule.{rootIndex}
 use Rattle.ctl.specs.Levels.{below, select}
 use Rattle.ctl.specs.Labels.{marked}
 use Rattle.label.specs.declared.analysis.Room.the-variants.{Nodes, States}
 use Rattle.label.specs.declared.holding.Holding.{Holding}
-use Rattle.label.specs.declared.holding.Holding.the-variants.{Count, Refuse}
+use Rattle.label.specs.declared.holding.Holding.the-variants.{Count, Refused as HoldingRefused}
 use Rattle.label.specs.Analysis.{analysisVerdict, labelWords}
 
 -- so many of the values first, and the rest of the buffer as it was
 abbrev pub over : {A : Type 0} → ℕ → List A → List A → List A
 over k values buffer = take k values ++ drop k buffer
-
--- a buffer after a call: written where the call accepted, else untouched
-abbrev pub onAccepted : {A : Type 0} → Verdict → List A → List A → List A
-onAccepted Accepted written buffer = written
-onAccepted (Refused r) written buffer = buffer
 
 -- Label: f entries, bit s of entry i set exactly when s is marked for node i
 abbrev pub labelVerdict : List ℕ → List ℕ → ℕ → Verdict
@@ -45,7 +40,7 @@ holdingVerdict table list room = analysisVerdict (States room) table list
 
 abbrev pub holdingAt : Verdict → ℕ → Holding
 holdingAt Accepted count = Count count
-holdingAt (Refused r) count = Refuse r
+holdingAt (Refused r) count = HoldingRefused r
 
 abbrev pub holdingAnswer : List ℕ → List ℕ → ℕ → Holding
 holdingAnswer table list room = holdingAt (holdingVerdict table list room) (length (heldStates (tableOf table) list))
@@ -57,4 +52,4 @@ holdingBuffer table list buffer =
 -- the number of an answer: 0 where the states are given, else the refusal's
 abbrev pub holdingNumber : Holding → ℕ
 holdingNumber (Count k) = 0
-holdingNumber (Refuse r) = refusalNumber r
+holdingNumber (HoldingRefused r) = refusalNumber r

@@ -13,7 +13,7 @@ ghost use Rattle.label.specs.Calls.{statesWith, holdingAnswer, holdingBu
 // The number of states, or why the call refused.
 pub enum Holding {
     Count(u32),
-    Refuse(Refusal),
+    Refused(Refusal),
 }
 
 // The states of a set, ascending, at the start of the buffer: the lowest member first, and then those of the rest.
@@ -39,7 +39,7 @@ pub fn holding_states(table: &[u8], list: &[u8], out: &mut [u8]) -> Holding
     let a = analyse(table, list, Room::States(out.len()));
     let verdict = a.verdict;
     if let Verdict::Refused(refusal) = verdict {
-        return Holding::Refuse(refusal);
+        return Holding::Refused(refusal);
     }
     let root = a.root;
     write_states(root, out);

@@ -30,3 +30,7 @@ pub use refusal::verdict_number;
 pub use section::nodes_part;
 pub use section::states_part;
 pub use section::steps_part;
+pub use width::HEADER_WIDTH;
+pub use width::NODE_WIDTH;
+pub use width::STATE_WIDTH;
+pub use width::STEP_WIDTH;

@@ -1,0 +1,5 @@
+pub mod Form
+pub mod Parse
+pub mod Place
+pub mod Read
+pub mod Render

@@ -1,0 +1,45 @@
+// The lines of values, written.
+use crate::emit::put_field;
+use crate::field::NEWLINE;
+use crate::field::SPACE;
+use table::Counts;
+use table::Node;
+use table::State;
+use table::Step;
+ghost use Rattle.sheet.specs.Form.{countsLine, stateLine, stepLine, nodeLine};
+ghost use Rattle.sheet.specs.Render.{Room, Stored};
+
+pub fn write_counts(text: &mut [u8], at: usize, c: Counts) -> usize
+    requires { ⌜ Room (now text) at (countsLine c) ⌝ }
+    ensures { λ r. ⌜ Stored (now (text .entry)) at (countsLine c) (now (text .exit)) r ⌝ }
+{
+    let second = put_field(text, at, c.states, SPACE);
+    let third = put_field(text, second, c.steps, SPACE);
+    let fourth = put_field(text, third, c.nodes, SPACE);
+    put_field(text, fourth, c.props, NEWLINE)
+}
+
+pub fn write_state(text: &mut [u8], at: usize, s: State) -> usize
+    requires { ⌜ Room (now text) at (stateLine s) ⌝ }
+    ensures { λ r. ⌜ Stored (now (text .entry)) at (stateLine s) (now (text .exit)) r ⌝ }
+{
+    let second = put_field(text, at, s.initial, SPACE);
+    put_field(text, second, s.label, NEWLINE)
+}
+
+pub fn write_step(text: &mut [u8], at: usize, x: Step) -> usize
+    requires { ⌜ Room (now text) at (stepLine x) ⌝ }
+    ensures { λ r. ⌜ Stored (now (text .entry)) at (stepLine x) (now (text .exit)) r ⌝ }
+{
+    let second = put_field(text, at, x.from, SPACE);
+    put_field(text, second, x.to, NEWLINE)
+}
+
+pub fn write_node(text: &mut [u8], at: usize, x: Node) -> usize
+    requires { ⌜ Room (now text) at (nodeLine x) ⌝ }
+    ensures { λ r. ⌜ Stored (now (text .entry)) at (nodeLine x) (now (text .exit)) r ⌝ }
+{
+    let second = put_field(text, at, x.kind, SPACE);
+    let third = put_field(text, second, x.a, SPACE);
+    put_field(text, third, x.b, NEWLINE)
+}
