@@ -7,7 +7,7 @@ use native.Mathlib.Omega.{arith}
 use lib.ListN.{length, take, drop, length-append}
 use lib.Seq.{sets, take-at, drop-at, take-length}
 use Rattle.table.specs.declared.record.State.{State}
-use Rattle.table.specs.Table.{tableOf, countsOf, packedLength, records, stateOf, stepOf, nodeOf, statesPart, stepsPart, nodesPart}
+use Rattle.table.specs.Table.{tableOf, countsOf, packedLength, records, stateOf, stepOf, nodeOf, statesPart, stepsPart, nodesPart, headerWidth, stateWidth, stepWidth, nodeWidth}
 use Rattle.sheet.specs.Form.{Sheet, InRange, bytesOf}
 use Rattle.sheet.proofs.Stores.{sets-append}
 use Rattle.sheet.specs.Read.{packCounts, packState, packStep, packNode, pack}
@@ -58,19 +58,19 @@ module _ (v : Sheet) (h : InRange v) where
   abbrev nodes-bytes : List ℕ
   nodes-bytes = bytesOf packNode (v .nodes)
 
-  states-length : length states-bytes ≡ 3 * v .counts .states
+  states-length : length states-bytes ≡ stateWidth * v .counts .states
   states-length = bytes-length packState 3 (λ s. refl) (v .states) ∙ ap (λ (n : ℕ). 3 * n) (h .states-count)
 
-  steps-length : length steps-bytes ≡ 2 * v .counts .steps
+  steps-length : length steps-bytes ≡ stepWidth * v .counts .steps
   steps-length = bytes-length packStep 2 (λ s. refl) (v .steps) ∙ ap (λ (n : ℕ). 2 * n) (h .steps-count)
 
-  nodes-length : length nodes-bytes ≡ 3 * v .counts .nodes
+  nodes-length : length nodes-bytes ≡ nodeWidth * v .counts .nodes
   nodes-length = bytes-length packNode 3 (λ s. refl) (v .nodes) ∙ ap (λ (n : ℕ). 3 * n) (h .nodes-count)
 
-  front-length : length (packCounts (v .counts) ++ states-bytes) ≡ 4 + 3 * v .counts .states
+  front-length : length (packCounts (v .counts) ++ states-bytes) ≡ headerWidth + stateWidth * v .counts .states
   front-length = omega (arith, states-length)
 
-  middle-length : length (packCounts (v .counts) ++ states-bytes ++ steps-bytes) ≡ 4 + 3 * v .counts .states + 2 * v .counts .steps
+  middle-length : length (packCounts (v .counts) ++ states-bytes ++ steps-bytes) ≡ headerWidth + stateWidth * v .counts .states + stepWidth * v .counts .steps
   middle-length = length-append (packCounts (v .counts) ++ states-bytes) steps-bytes ∙ ap₂ (λ (a b : ℕ). a + b) front-length steps-length
 
   -- a packed sheet is as long as its counts say
@@ -80,35 +80,35 @@ module _ (v : Sheet) (h : InRange v) where
 
   states-packed : statesPart (pack v) ≡ states-bytes
   unfolding pack
-  states-packed = ap (take (3 * v .counts .states)) (append-assoc states-bytes steps-bytes nodes-bytes) ∙ take-at states-bytes (steps-bytes ++ nodes-bytes) (3 * v .counts .states) states-length
+  states-packed = ap (take (stateWidth * v .counts .states)) (append-assoc states-bytes steps-bytes nodes-bytes) ∙ take-at states-bytes (steps-bytes ++ nodes-bytes) (stateWidth * v .counts .states) states-length
 
   steps-packed : stepsPart (pack v) ≡ steps-bytes
   unfolding pack
   steps-packed =
-      ap (λ (l : List ℕ). take (2 * v .counts .steps) (drop (4 + 3 * v .counts .states) l)) (append-assoc (packCounts (v .counts) ++ states-bytes) steps-bytes nodes-bytes)
-      ∙ ap (take (2 * v .counts .steps)) (drop-at (packCounts (v .counts) ++ states-bytes) (steps-bytes ++ nodes-bytes) (4 + 3 * v .counts .states) front-length)
-      ∙ take-at steps-bytes nodes-bytes (2 * v .counts .steps) steps-length
+      ap (λ (l : List ℕ). take (stepWidth * v .counts .steps) (drop (headerWidth + stateWidth * v .counts .states) l)) (append-assoc (packCounts (v .counts) ++ states-bytes) steps-bytes nodes-bytes)
+      ∙ ap (take (stepWidth * v .counts .steps)) (drop-at (packCounts (v .counts) ++ states-bytes) (steps-bytes ++ nodes-bytes) (headerWidth + stateWidth * v .counts .states) front-length)
+      ∙ take-at steps-bytes nodes-bytes (stepWidth * v .counts .steps) steps-length
 
   nodes-packed : nodesPart (pack v) ≡ nodes-bytes
   unfolding pack
   nodes-packed =
-      ap (take (3 * v .counts .nodes)) (drop-at (packCounts (v .counts) ++ states-bytes ++ steps-bytes) nodes-bytes (4 + 3 * v .counts .states + 2 * v .counts .steps) middle-length)
+      ap (take (nodeWidth * v .counts .nodes)) (drop-at (packCounts (v .counts) ++ states-bytes ++ steps-bytes) nodes-bytes (headerWidth + stateWidth * v .counts .states + stepWidth * v .counts .steps) middle-length)
       ∙ ap (λ (k : ℕ). take k nodes-bytes) (sym nodes-length)
       ∙ take-length nodes-bytes
 
   -- the four parts stored one behind the other
   pub parts-stored : (l : List ℕ)
-      → sets (sets (sets (sets l 0 (packCounts (v .counts))) 4 states-bytes) (4 + 3 * v .counts .states) steps-bytes) (4 + 3 * v .counts .states + 2 * v .counts .steps) nodes-bytes
+      → sets (sets (sets (sets l 0 (packCounts (v .counts))) headerWidth states-bytes) (headerWidth + stateWidth * v .counts .states) steps-bytes) (headerWidth + stateWidth * v .counts .states + stepWidth * v .counts .steps) nodes-bytes
       ≡ sets l 0 (pack v)
   unfolding pack
   parts-stored l =
-      let s : sets (sets l 0 (packCounts (v .counts))) 4 states-bytes ≡ sets l 0 (packCounts (v .counts) ++ states-bytes) = sym (sets-append (packCounts (v .counts)) states-bytes l 0) in
-      let x : sets (sets l 0 (packCounts (v .counts) ++ states-bytes)) (4 + 3 * v .counts .states) steps-bytes ≡ sets l 0 (packCounts (v .counts) ++ states-bytes ++ steps-bytes) =
+      let s : sets (sets l 0 (packCounts (v .counts))) headerWidth states-bytes ≡ sets l 0 (packCounts (v .counts) ++ states-bytes) = sym (sets-append (packCounts (v .counts)) states-bytes l 0) in
+      let x : sets (sets l 0 (packCounts (v .counts) ++ states-bytes)) (headerWidth + stateWidth * v .counts .states) steps-bytes ≡ sets l 0 (packCounts (v .counts) ++ states-bytes ++ steps-bytes) =
       ap (λ (k : ℕ). sets (sets l 0 (packCounts (v .counts) ++ states-bytes)) k steps-bytes) (omega (arith, front-length)) ∙ sym (sets-append (packCounts (v .counts) ++ states-bytes) steps-bytes l 0) in
-      let z : sets (sets l 0 (packCounts (v .counts) ++ states-bytes ++ steps-bytes)) (4 + 3 * v .counts .states + 2 * v .counts .steps) nodes-bytes ≡ sets l 0 (packCounts (v .counts) ++ states-bytes ++ steps-bytes ++ nodes-bytes) =
+      let z : sets (sets l 0 (packCounts (v .counts) ++ states-bytes ++ steps-bytes)) (headerWidth + stateWidth * v .counts .states + stepWidth * v .counts .steps) nodes-bytes ≡ sets l 0 (packCounts (v .counts) ++ states-bytes ++ steps-bytes ++ nodes-bytes) =
       ap (λ (k : ℕ). sets (sets l 0 (packCounts (v .counts) ++ states-bytes ++ steps-bytes)) k nodes-bytes) (omega (arith, middle-length)) ∙ sym (sets-append (packCounts (v .counts) ++ states-bytes ++ steps-bytes) nodes-bytes l 0) in
-      ap (λ (a : List ℕ). sets (sets a (4 + 3 * v .counts .states) steps-bytes) (4 + 3 * v .counts .states + 2 * v .counts .steps) nodes-bytes) s
-      ∙ ap (λ (a : List ℕ). sets a (4 + 3 * v .counts .states + 2 * v .counts .steps) nodes-bytes) x
+      ap (λ (a : List ℕ). sets (sets a (headerWidth + stateWidth * v .counts .states) steps-bytes) (headerWidth + stateWidth * v .counts .states + stepWidth * v .counts .steps) nodes-bytes) s
+      ∙ ap (λ (a : List ℕ). sets a (headerWidth + stateWidth * v .counts .states + stepWidth * v .counts .steps) nodes-bytes) x
       ∙ z
 
   -- the records of the packed table are the sheet's

@@ -11,7 +11,7 @@ use lib.Seq.{take-all, length-take-le, drop-drop}
 use Rattle.table.specs.declared.refusal.Refusal.the-variants.{ShortBuffer}
 use Rattle.table.specs.declared.refusal.Verdict.the-variants.{Accepted}
 use Rattle.table.specs.Verdict.{require, _then_}
-use Rattle.table.specs.Table.{records, countsOf, packedLength, stateOf, stepOf, nodeOf, statesPart, stepsPart, nodesPart}
+use Rattle.table.specs.Table.{records, countsOf, packedLength, stateOf, stepOf, nodeOf, statesPart, stepsPart, nodesPart, stateWidth, stepWidth, nodeWidth, headerWidth}
 use Rattle.table.specs.Accept.{tableVerdict}
 use Rattle.table.proofs.Accepted.{header-accepted}
 use Rattle.table.proofs.Verdicts.{then-next}
@@ -78,16 +78,16 @@ module _ (l : List ℕ) (b : Bytes l) (size : length l ≡ packedLength (countsO
 
   sections : take 4 l ++ statesPart l ++ stepsPart l ++ nodesPart l ≡ l
   sections =
-      let rest : nodesPart l ≡ drop (4 + 3 * n + 2 * e) l = take-all (3 * f) (drop (4 + 3 * n + 2 * e) l) (omega (arith, length-drop (4 + 3 * n + 2 * e) l)) in
-      let steps : stepsPart l ++ drop (4 + 3 * n + 2 * e) l ≡ drop (4 + 3 * n) l =
-      ap (λ (x : List ℕ). stepsPart l ++ x) (sym (drop-drop (2 * e) (4 + 3 * n) l)) ∙ take-append-drop (2 * e) (drop (4 + 3 * n) l) in
-      let states : statesPart l ++ drop (4 + 3 * n) l ≡ drop 4 l =
-      ap (λ (x : List ℕ). statesPart l ++ x) (sym (drop-drop (3 * n) 4 l)) ∙ take-append-drop (3 * n) (drop 4 l) in
+      let rest : nodesPart l ≡ drop (headerWidth + stateWidth * n + stepWidth * e) l = take-all (nodeWidth * f) (drop (headerWidth + stateWidth * n + stepWidth * e) l) (omega (arith, length-drop (headerWidth + stateWidth * n + stepWidth * e) l)) in
+      let steps : stepsPart l ++ drop (headerWidth + stateWidth * n + stepWidth * e) l ≡ drop (headerWidth + stateWidth * n) l =
+      ap (λ (x : List ℕ). stepsPart l ++ x) (sym (drop-drop (stepWidth * e) (headerWidth + stateWidth * n) l)) ∙ take-append-drop (stepWidth * e) (drop (headerWidth + stateWidth * n) l) in
+      let states : statesPart l ++ drop (headerWidth + stateWidth * n) l ≡ drop headerWidth l =
+      ap (λ (x : List ℕ). statesPart l ++ x) (sym (drop-drop (stateWidth * n) headerWidth l)) ∙ take-append-drop (stateWidth * n) (drop headerWidth l) in
       regroup (take 4 l) (statesPart l) (stepsPart l) (nodesPart l)
       ∙ ap (λ (x : List ℕ). take 4 l ++ (statesPart l ++ (stepsPart l ++ x))) rest
       ∙ ap (λ (x : List ℕ). take 4 l ++ (statesPart l ++ x)) steps
       ∙ ap (λ (x : List ℕ). take 4 l ++ x) states
-      ∙ take-append-drop 4 l
+      ∙ take-append-drop headerWidth l
     where
       regroup : (p q r s : List ℕ) → p ++ q ++ r ++ s ≡ p ++ (q ++ (r ++ s))
       regroup p q r s = simp append-assoc
@@ -95,9 +95,9 @@ module _ (l : List ℕ) (b : Bytes l) (size : length l ≡ packedLength (countsO
   pub pack-sheet : pack (sheetOf l) ≡ l
   unfolding pack
   pack-sheet =
-      let s = bytes-again packState stateOf 3 state-again n (statesPart l) (part-length (3 * n) 4 (omega arith)) (bytes-part (3 * n) 4 l b) in
-      let x = bytes-again packStep stepOf 2 step-again e (stepsPart l) (part-length (2 * e) (4 + 3 * n) (omega arith)) (bytes-part (2 * e) (4 + 3 * n) l b) in
-      let z = bytes-again packNode nodeOf 3 node-again f (nodesPart l) (part-length (3 * f) (4 + 3 * n + 2 * e) (omega arith)) (bytes-part (3 * f) (4 + 3 * n + 2 * e) l b) in
+      let s = bytes-again packState stateOf stateWidth state-again n (statesPart l) (part-length (stateWidth * n) headerWidth (omega arith)) (bytes-part (stateWidth * n) headerWidth l b) in
+      let x = bytes-again packStep stepOf stepWidth step-again e (stepsPart l) (part-length (stepWidth * e) (headerWidth + stateWidth * n) (omega arith)) (bytes-part (stepWidth * e) (headerWidth + stateWidth * n) l b) in
+      let z = bytes-again packNode nodeOf nodeWidth node-again f (nodesPart l) (part-length (nodeWidth * f) (headerWidth + stateWidth * n + stepWidth * e) (omega arith)) (bytes-part (nodeWidth * f) (headerWidth + stateWidth * n + stepWidth * e) l b) in
       (λ i. counts-again l (omega arith) i ++ s i ++ x i ++ z i) ∙ sections
 
 -- reading the sheet of an accepted table: its verdict is test 10 alone, and what is packed is the table

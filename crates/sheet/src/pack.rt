@@ -19,14 +19,14 @@ ghost use mathlib.Core.Option.{some};
 ghost use Prim.Native.Nat.{_+_, _*_, _≤_};
 ghost use lib.ListN.{length, drop};
 ghost use lib.Seq.{sets};
-ghost use Rattle.table.specs.Table.{packedLength};
+ghost use Rattle.table.specs.Table.{packedLength, stateWidth, stepWidth, nodeWidth};
 ghost use Rattle.sheet.specs.Form.{bytesOf};
 ghost use Rattle.sheet.specs.Parse.{parse, stateParser, stepParser, nodeParser};
 ghost use Rattle.sheet.specs.Place.{values, sheetAt};
 ghost use Rattle.sheet.specs.Read.{packState, packStep, packNode, pack};
 
 fn pack_states(text: &[u8], at: usize, count: usize, packed: &mut [u8], from: usize)
-    requires { ⌜ from + 3 * count ≤ length (now packed) ⌝ }
+    requires { ⌜ from + stateWidth * count ≤ length (now packed) ⌝ }
     ensures { λ r. ⌜ now (packed .exit) ≡ sets (now (packed .entry)) from (bytesOf packState (values count stateParser (drop at (now (text .entry))))) ⌝ }
 {
     let mut place = at;
@@ -44,7 +44,7 @@ fn pack_states(text: &[u8], at: usize, count: usize, packed: &mut [u8], from: us
 }
 
 fn pack_steps(text: &[u8], at: usize, count: usize, packed: &mut [u8], from: usize)
-    requires { ⌜ from + 2 * count ≤ length (now packed) ⌝ }
+    requires { ⌜ from + stepWidth * count ≤ length (now packed) ⌝ }
     ensures { λ r. ⌜ now (packed .exit) ≡ sets (now (packed .entry)) from (bytesOf packStep (values count stepParser (drop at (now (text .entry))))) ⌝ }
 {
     let mut place = at;
@@ -62,7 +62,7 @@ fn pack_steps(text: &[u8], at: usize, count: usize, packed: &mut [u8], from: usi
 }
 
 fn pack_nodes(text: &[u8], at: usize, count: usize, packed: &mut [u8], from: usize)
-    requires { ⌜ from + 3 * count ≤ length (now packed) ⌝ }
+    requires { ⌜ from + nodeWidth * count ≤ length (now packed) ⌝ }
     ensures { λ r. ⌜ now (packed .exit) ≡ sets (now (packed .entry)) from (bytesOf packNode (values count nodeParser (drop at (now (text .entry))))) ⌝ }
 {
     let mut place = at;

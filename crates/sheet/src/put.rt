@@ -9,9 +9,10 @@ ghost use lib.ListN.{length};
 ghost use lib.Seq.{sets};
 ghost use Rattle.sheet.specs.Form.{CountsInRange, StateInRange, StepInRange, NodeInRange};
 ghost use Rattle.sheet.specs.Read.{packCounts, packState, packStep, packNode};
+ghost use Rattle.table.specs.Table.{headerWidth, stateWidth, stepWidth, nodeWidth};
 
 pub fn put_counts(packed: &mut [u8], c: Counts)
-    requires { ⌜ (4 ≤ length (now packed)) × CountsInRange c ⌝ }
+    requires { ⌜ (headerWidth ≤ length (now packed)) × CountsInRange c ⌝ }
     ensures { λ r. ⌜ now (packed .exit) ≡ sets (now (packed .entry)) 0 (packCounts c) ⌝ }
 {
     packed[0] = c.states as u8;
@@ -21,7 +22,7 @@ pub fn put_counts(packed: &mut [u8], c: Counts)
 }
 
 pub fn put_state(packed: &mut [u8], at: usize, s: State)
-    requires { ⌜ (at + 3 ≤ length (now packed)) × StateInRange s ⌝ }
+    requires { ⌜ (at + stateWidth ≤ length (now packed)) × StateInRange s ⌝ }
     ensures { λ r. ⌜ now (packed .exit) ≡ sets (now (packed .entry)) at (packState s) ⌝ }
 {
     packed[at] = s.initial as u8;
@@ -30,7 +31,7 @@ pub fn put_state(packed: &mut [u8], at: usize, s: State)
 }
 
 pub fn put_step(packed: &mut [u8], at: usize, x: Step)
-    requires { ⌜ (at + 2 ≤ length (now packed)) × StepInRange x ⌝ }
+    requires { ⌜ (at + stepWidth ≤ length (now packed)) × StepInRange x ⌝ }
     ensures { λ r. ⌜ now (packed .exit) ≡ sets (now (packed .entry)) at (packStep x) ⌝ }
 {
     packed[at] = x.from as u8;
@@ -38,7 +39,7 @@ pub fn put_step(packed: &mut [u8], at: usize, x: Step)
 }
 
 pub fn put_node(packed: &mut [u8], at: usize, x: Node)
-    requires { ⌜ (at + 3 ≤ length (now packed)) × NodeInRange x ⌝ }
+    requires { ⌜ (at + nodeWidth ≤ length (now packed)) × NodeInRange x ⌝ }
     ensures { λ r. ⌜ now (packed .exit) ≡ sets (now (packed .entry)) at (packNode x) ⌝ }
 {
     packed[at] = x.kind as u8;

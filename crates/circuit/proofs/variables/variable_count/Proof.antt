@@ -10,7 +10,7 @@ use lib.ListN.{length, getD, drop}
 use denote.Ref.{now}
 use Rattle.table.specs.declared.counts.Counts.{Counts}
 use Rattle.table.specs.declared.record.Node.{Node}
-use Rattle.table.specs.Table.{tableOf, countsOf, records, stateOf, stepOf, nodeOf, statesPart, stepsPart, nodesPart}
+use Rattle.table.specs.Table.{tableOf, countsOf, records, stateOf, stepOf, nodeOf, statesPart, stepsPart, nodesPart, stateWidth, stepWidth, nodeWidth}
 use Rattle.table.proofs.Records.{records-length, records-next, records-done}
 use Rattle.ctl.specs.Rule.{operatorOf}
 use Rattle.circuit.specs.Variables.{costOf, costs, variableFormula}
@@ -27,28 +27,28 @@ bytes table byte k e = (
 )
 
 -- the nodes from i on cost what the one at i does, and those after it
-one : (n e f : ℕ) (nodes : List ℕ) (i : ℕ) → i < f → (x : Node) → x ≡ nodeOf (drop (3 * i) nodes)
-    → costs n e (drop i (records nodeOf 3 f nodes)) ≡ costOf n e (operatorOf x) + costs n e (drop (i + 1) (records nodeOf 3 f nodes))
+one : (n e f : ℕ) (nodes : List ℕ) (i : ℕ) → i < f → (x : Node) → x ≡ nodeOf (drop (nodeWidth * i) nodes)
+    → costs n e (drop i (records nodeOf nodeWidth f nodes)) ≡ costOf n e (operatorOf x) + costs n e (drop (i + 1) (records nodeOf nodeWidth f nodes))
 unfolding costs
 one n e f nodes i h x here =
-    ap (costs n e) (records-next nodeOf 3 f nodes i h)
-    ∙ (λ j. costOf n e (operatorOf (sym here j)) + costs n e (drop (sym (add-one i) j) (records nodeOf 3 f nodes)))
+    ap (costs n e) (records-next nodeOf nodeWidth f nodes i h)
+    ∙ (λ j. costOf n e (operatorOf (sym here j)) + costs n e (drop (sym (add-one i) j) (records nodeOf nodeWidth f nodes)))
 
 -- the formula, from the counts and the section that were read
 whole : (table : List ℕ) (k : Counts) → k ≡ countsOf table → (nodes : List ℕ) → nodes ≡ nodesPart table
-    → k .steps + k .states + costs (k .states) (k .steps) (records nodeOf 3 (k .nodes) nodes) ≡ variableFormula (tableOf table)
+    → k .steps + k .states + costs (k .states) (k .steps) (records nodeOf nodeWidth (k .nodes) nodes) ≡ variableFormula (tableOf table)
 unfolding variableFormula
 whole table k here nodes section =
-    let n : k .states ≡ length (tableOf table .states) = ap (λ (c : Counts). c .states) here ∙ sym (records-length stateOf 3 (countsOf table .states) (statesPart table)) in
-    let e : k .steps ≡ length (tableOf table .steps) = ap (λ (c : Counts). c .steps) here ∙ sym (records-length stepOf 2 (countsOf table .steps) (stepsPart table)) in
-    λ j. e j + n j + costs (n j) (e j) (records nodeOf 3 (here j .nodes) (section j))
+    let n : k .states ≡ length (tableOf table .states) = ap (λ (c : Counts). c .states) here ∙ sym (records-length stateOf stateWidth (countsOf table .states) (statesPart table)) in
+    let e : k .steps ≡ length (tableOf table .steps) = ap (λ (c : Counts). c .steps) here ∙ sym (records-length stepOf stepWidth (countsOf table .steps) (stepsPart table)) in
+    λ j. e j + n j + costs (n j) (e j) (records nodeOf nodeWidth (here j .nodes) (section j))
 
 abbrev Inv-loop : tie.InvT-loop
 Inv-loop table n e f nodes sum₀ i₀ sum i =
     ((n ≤ 255) × (e ≤ 255) × (f ≤ 255))
     × (i ≤ f)
     × (sum ≤ 510 + 260355 * i)
-    × (e + n + costs n e (records nodeOf 3 f nodes) ≡ sum + costs n e (drop i (records nodeOf 3 f nodes)))
+    × (e + n + costs n e (records nodeOf nodeWidth f nodes) ≡ sum + costs n e (drop i (records nodeOf nodeWidth f nodes)))
 
 abbrev μ-loop : tie.MeasureT-loop
 μ-loop table n e f nodes sum₀ i₀ sum i = f - i
@@ -105,7 +105,7 @@ unfolding costs
 returns c =
     let k = c .before .before .before .counts-of .result in
     let nodes = now (c .before .before .nodes-part .result) in
-    let none = ap (costs (k .states) (k .steps)) (records-done nodeOf 3 (k .nodes) nodes (c .before .loop .i) (c .loop-test .left)) in
+    let none = ap (costs (k .states) (k .steps)) (records-done nodeOf nodeWidth (k .nodes) nodes (c .before .loop .i) (c .loop-test .left)) in
     let all = whole (now (c .before .before .before .before .before .args .table)) k (c .before .before .before .counts-of .ensures) nodes (c .before .before .nodes-part .ensures) in
     omega (arith, c .before .loop .inv .3, none, all)
 

@@ -11,7 +11,7 @@ use lib.ListN.{length, drop, set, length-set}
 use denote.Ref.{now}
 use Rattle.table.specs.declared.counts.Counts.{Counts}
 use Rattle.table.specs.declared.record.Node.{Node}
-use Rattle.table.specs.Table.{tableOf, countsOf, nodeOf, nodesPart, statesPart}
+use Rattle.table.specs.Table.{tableOf, countsOf, nodeOf, nodesPart, statesPart, nodeWidth}
 use Rattle.table.proofs.Accepted.{accepted}
 use Rattle.table.proofs.Records.{records-next, records-done}
 use Rattle.ctl.specs.Rule.{operatorOf}
@@ -30,13 +30,13 @@ counted table ok k e =
     (n, f, omega (arith, n, p .table .few-states), omega (arith, f, p .table .few-nodes))
 
 -- one node of the pass
-one : (table : List ℕ) (rows : List ℕ) (kept n : ℕ) (i : ℕ) → i < countsOf table .nodes → (x : Node) → x ≡ nodeOf (drop (3 * i) (nodesPart table)) → (words : List ℕ) (w : ℕ)
+one : (table : List ℕ) (rows : List ℕ) (kept n : ℕ) (i : ℕ) → i < countsOf table .nodes → (x : Node) → x ≡ nodeOf (drop (nodeWidth * i) (nodesPart table)) → (words : List ℕ) (w : ℕ)
     → w ≡ nodeWord rows kept n (statesPart table) words (operatorOf x)
     → passWords rows kept n (statesPart table) i (drop i (tableOf table .nodes)) words
     ≡ passWords rows kept n (statesPart table) (i + 1) (drop (i + 1) (tableOf table .nodes)) (set words i w)
 unfolding passWords
 one table rows kept n i h x e words w v =
-    ap (λ (xs : List Node). passWords rows kept n (statesPart table) i xs words) (records-next nodeOf 3 (countsOf table .nodes) (nodesPart table) i h)
+    ap (λ (xs : List Node). passWords rows kept n (statesPart table) i xs words) (records-next nodeOf nodeWidth (countsOf table .nodes) (nodesPart table) i h)
     ∙ (λ j. passWords rows kept n (statesPart table) (sym (add-one i) j) (drop (sym (add-one i) j) (tableOf table .nodes))
     (set words i ((ap (λ (y : Node). nodeWord rows kept n (statesPart table) words (operatorOf y)) (sym e) ∙ sym v) j)))
 
@@ -101,7 +101,7 @@ loop-again c =
     let words = c .before .before .before .loop .next in
     let h : i < countsOf l .nodes = omega (arith, ap (λ (y : Counts). y .nodes) k) in
     let x = c .before .node-at .result in
-    let here : x ≡ nodeOf (drop (3 * i) (nodesPart l)) = c .before .node-at .ensures ∙ ap (λ (s : List ℕ). nodeOf (drop (3 * i) s)) (c .before .before .before .before .nodes-part .ensures) in
+    let here : x ≡ nodeOf (drop (nodeWidth * i) (nodesPart l)) = c .before .node-at .ensures ∙ ap (λ (s : List ℕ). nodeOf (drop (nodeWidth * i) s)) (c .before .before .before .before .nodes-part .ensures) in
     let w : c .node-states .result ≡ nodeWord (a .rows) (a .kept) (length (tableOf l .states)) (statesPart l) words (operatorOf x) =
     c .node-states .ensures ∙ (λ j. nodeWord (a .rows) (a .kept) (q .0 j) (c .before .before .before .before .before .states-part .ensures j) words (operatorOf x)) in (
       omega arith,
@@ -115,7 +115,7 @@ returns c =
     let a = c .before .before .before .before .before .before .args in
     let l = now (a .table) in
     let i = c .before .loop .i in
-    let done = records-done nodeOf 3 (countsOf l .nodes) (nodesPart l) i (omega (arith, ap (λ (y : Counts). y .nodes) (c .before .before .before .before .counts-of .ensures))) in
+    let done = records-done nodeOf nodeWidth (countsOf l .nodes) (nodesPart l) i (omega (arith, ap (λ (y : Counts). y .nodes) (c .before .before .before .before .counts-of .ensures))) in
     sym (c .before .loop .inv .2 ∙ ap (λ (xs : List Node). passWords (a .rows) (a .kept) (length (tableOf l .states)) (statesPart l) i xs (c .before .loop .next)) done)
 
 pub label-pass-spec : {M : Type 1} → statement M

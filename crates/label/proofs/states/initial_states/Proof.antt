@@ -9,12 +9,12 @@ use Rattle.sets.specs.Member.{setOf}
 use Rattle.sets.proofs.Collect.{collect}
 use denote.Ref.{now}
 use Rattle.table.specs.declared.record.State.{State}
-use Rattle.table.specs.Table.{stateOf}
+use Rattle.table.specs.Table.{stateOf, stateWidth}
 use Rattle.label.proofs.states.initial_states.Statement.{statement}
 use Rattle.label.proofs.states.initial_states.Tie as tie
 
 abbrev Inv-loop : tie.InvT-loop
-Inv-loop states n set₀ s₀ set s = (s ≤ n) × (set ≡ setOf s (λ t. eqb (stateOf (drop (3 * t) states) .initial) 1))
+Inv-loop states n set₀ s₀ set s = (s ≤ n) × (set ≡ setOf s (λ t. eqb (stateOf (drop (stateWidth * t) states) .initial) 1))
 
 abbrev μ-loop : tie.MeasureT-loop
 μ-loop states n set₀ s₀ set s = n - s
@@ -41,13 +41,13 @@ loop-again c =
     let s = c .before .before .before .before .loop .s in (
       omega arith,
       c .insert-if .ensures
-          ∙ collect s (λ t. eqb (stateOf (drop (3 * t) (now (a .states))) .initial) 1) (c .before .before .before .before .loop .set) (eqb (c .before .before .state-at .result .initial) 1) (omega arith) (c .before .before .before .before .loop .inv .1) (ap (λ (x : State). eqb (x .initial) 1) (c .before .before .state-at .ensures)),
+          ∙ collect s (λ t. eqb (stateOf (drop (stateWidth * t) (now (a .states))) .initial) 1) (c .before .before .before .before .loop .set) (eqb (c .before .before .state-at .result .initial) 1) (omega arith) (c .before .before .before .before .loop .inv .1) (ap (λ (x : State). eqb (x .initial) 1) (c .before .before .state-at .ensures)),
     )
 
 returns : tie.Need-returns Inv-loop μ-loop
 returns c =
     let a = c .before .before .before .args in
-    c .before .loop .inv .1 ∙ ap (λ (k : ℕ). setOf k (λ t. eqb (stateOf (drop (3 * t) (now (a .states))) .initial) 1)) (omega arith)
+    c .before .loop .inv .1 ∙ ap (λ (k : ℕ). setOf k (λ t. eqb (stateOf (drop (stateWidth * t) (now (a .states))) .initial) 1)) (omega arith)
 
 pub initial-states-spec : {M : Type 1} → statement M
 initial-states-spec =

@@ -9,12 +9,12 @@ use Rattle.sets.specs.Member.{member, setOf}
 use Rattle.sets.proofs.Collect.{collect}
 use denote.Ref.{now}
 use Rattle.table.specs.declared.record.State.{State}
-use Rattle.table.specs.Table.{stateOf}
+use Rattle.table.specs.Table.{stateOf, stateWidth}
 use Rattle.label.proofs.states.labelled_states.Statement.{statement}
 use Rattle.label.proofs.states.labelled_states.Tie as tie
 
 abbrev Inv-loop : tie.InvT-loop
-Inv-loop states n p set₀ s₀ set s = (s ≤ n) × (set ≡ setOf s (λ t. member (stateOf (drop (3 * t) states) .label) p))
+Inv-loop states n p set₀ s₀ set s = (s ≤ n) × (set ≡ setOf s (λ t. member (stateOf (drop (stateWidth * t) states) .label) p))
 
 abbrev μ-loop : tie.MeasureT-loop
 μ-loop states n p set₀ s₀ set s = n - s
@@ -30,7 +30,7 @@ cast-contains : tie.Need-cast-contains Inv-loop μ-loop
 cast-contains c =
     let l = now (c .before .before .before .before .before .args .states) in
     let s = c .before .before .before .loop .s in
-    omega (arith, ap (λ (x : State). x .label) (c .before .state-at .ensures), getD-drop (3 * s) l 1 0, getD-drop (3 * s) l 2 0, c .before .before .before .before .shared-slice-known .given (3 * s + 1), c .before .before .before .before .shared-slice-known .given (3 * s + 2))
+    omega (arith, ap (λ (x : State). x .label) (c .before .state-at .ensures), getD-drop (stateWidth * s) l 1 0, getD-drop (stateWidth * s) l 2 0, c .before .before .before .before .shared-slice-known .given (stateWidth * s + 1), c .before .before .before .before .shared-slice-known .given (stateWidth * s + 2))
 
 contains-requires : tie.Need-contains-requires Inv-loop μ-loop
 contains-requires c κs = search needs
@@ -50,13 +50,13 @@ loop-again c =
     let s = c .before .before .before .before .before .loop .s in (
       omega arith,
       c .insert-if .ensures
-          ∙ collect s (λ t. member (stateOf (drop (3 * t) (now (a .states))) .label) (a .p)) (c .before .before .before .before .before .loop .set) (c .before .contains .result) (omega arith) (c .before .before .before .before .before .loop .inv .1) (c .before .contains .ensures ∙ ap (λ (x : State). member (x .label) (a .p)) (c .before .before .before .state-at .ensures)),
+          ∙ collect s (λ t. member (stateOf (drop (stateWidth * t) (now (a .states))) .label) (a .p)) (c .before .before .before .before .before .loop .set) (c .before .contains .result) (omega arith) (c .before .before .before .before .before .loop .inv .1) (c .before .contains .ensures ∙ ap (λ (x : State). member (x .label) (a .p)) (c .before .before .before .state-at .ensures)),
     )
 
 returns : tie.Need-returns Inv-loop μ-loop
 returns c =
     let a = c .before .before .before .args in
-    c .before .loop .inv .1 ∙ ap (λ (k : ℕ). setOf k (λ t. member (stateOf (drop (3 * t) (now (a .states))) .label) (a .p))) (omega arith)
+    c .before .loop .inv .1 ∙ ap (λ (k : ℕ). setOf k (λ t. member (stateOf (drop (stateWidth * t) (now (a .states))) .label) (a .p))) (omega arith)
 
 pub labelled-states-spec : {M : Type 1} → statement M
 labelled-states-spec =

@@ -13,6 +13,7 @@ use Rattle.sheet.proofs.Packed.{parts-stored}
 use borrow.Author.Needs.{needs}
 use Rattle.sheet.proofs.pack.pack_sheet.Statement.{statement}
 use Rattle.sheet.proofs.pack.pack_sheet.Tie as tie
+use Rattle.table.specs.Table.{headerWidth, stateWidth, stepWidth}
 
 mul-second : tie.Need-mul-second
 mul-second c = search needs
@@ -55,9 +56,9 @@ returns c =
     let n = a .counts .states in
     let e = a .counts .steps in
     c .before .before .pack-nodes .ensures
-    ∙ ap (λ (p : List ℕ). sets p (4 + 3 * n + 2 * e) (bytesOf packNode (v .nodes))) (c .before .before .before .before .before .before .pack-steps .ensures)
-    ∙ ap (λ (p : List ℕ). sets (sets p (4 + 3 * n) (bytesOf packStep (v .steps))) (4 + 3 * n + 2 * e) (bytesOf packNode (v .nodes))) (c .before .before .before .before .before .before .before .before .before .before .pack-states .ensures)
-    ∙ ap (λ (p : List ℕ). sets (sets (sets p 4 (bytesOf packState (v .states))) (4 + 3 * n) (bytesOf packStep (v .steps))) (4 + 3 * n + 2 * e) (bytesOf packNode (v .nodes))) (c .before .before .before .before .before .before .before .before .before .before .before .before .before .before .put-counts .ensures)
+    ∙ ap (λ (p : List ℕ). sets p (headerWidth + stateWidth * n + stepWidth * e) (bytesOf packNode (v .nodes))) (c .before .before .before .before .before .before .pack-steps .ensures)
+    ∙ ap (λ (p : List ℕ). sets (sets p (headerWidth + stateWidth * n) (bytesOf packStep (v .steps))) (headerWidth + stateWidth * n + stepWidth * e) (bytesOf packNode (v .nodes))) (c .before .before .before .before .before .before .before .before .before .before .pack-states .ensures)
+    ∙ ap (λ (p : List ℕ). sets (sets (sets p headerWidth (bytesOf packState (v .states))) (headerWidth + stateWidth * n) (bytesOf packStep (v .steps))) (headerWidth + stateWidth * n + stepWidth * e) (bytesOf packNode (v .nodes))) (c .before .before .before .before .before .before .before .before .before .before .before .before .before .before .put-counts .ensures)
     ∙ parts-stored v (r .0) (now (a .packed))
 
 pub pack-sheet-spec : {M : Type 1} → statement M

@@ -18,11 +18,12 @@ use Rattle.sheet.proofs.Times.{values-next, values-broken}
 use Rattle.sheet.proofs.Stores.{sets-append}
 use Rattle.sheet.proofs.pack.pack_states.Statement.{statement}
 use Rattle.sheet.proofs.pack.pack_states.Tie as tie
+use Rattle.table.specs.Table.{stateWidth}
 
 abbrev Inv-loop : tie.InvT-loop
 Inv-loop text at count packed₀ from place₀ to₀ left₀ packed place to left =
     (length packed ≡ length packed₀)
-    × (to + 3 * left ≤ length packed₀)
+    × (to + stateWidth * left ≤ length packed₀)
     × (sets packed to (bytesOf packState (values left stateParser (drop place text))) ≡ sets packed₀ from (bytesOf packState (values count stateParser (drop at text))))
 
 abbrev μ-loop : tie.MeasureT-loop

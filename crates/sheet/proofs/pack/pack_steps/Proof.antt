@@ -18,11 +18,12 @@ use Rattle.sheet.proofs.Times.{values-next, values-broken}
 use Rattle.sheet.proofs.Stores.{sets-append}
 use Rattle.sheet.proofs.pack.pack_steps.Statement.{statement}
 use Rattle.sheet.proofs.pack.pack_steps.Tie as tie
+use Rattle.table.specs.Table.{stepWidth}
 
 abbrev Inv-loop : tie.InvT-loop
 Inv-loop text at count packed₀ from place₀ to₀ left₀ packed place to left =
     (length packed ≡ length packed₀)
-    × (to + 2 * left ≤ length packed₀)
+    × (to + stepWidth * left ≤ length packed₀)
     × (sets packed to (bytesOf packStep (values left stepParser (drop place text))) ≡ sets packed₀ from (bytesOf packStep (values count stepParser (drop at text))))
 
 abbrev μ-loop : tie.MeasureT-loop

@@ -4,7 +4,7 @@ use lib.ListN.{length}
 use lib.Seq.{length-sets}
 use mathlib.Core.List.{_++_}
 use denote.Ref.{now}
-use Rattle.table.specs.Table.{records, stateOf, stepOf, nodeOf, statesOf, stepsOf, nodesOf}
+use Rattle.table.specs.Table.{records, stateOf, stepOf, nodeOf, statesOf, stepsOf, nodesOf, stateWidth, stepWidth, nodeWidth}
 use Rattle.sheet.specs.Form.{countsNames, statesNames, stepsNames, nodesNames, countsLine, stateLine, stepLine, nodeLine, bytesOf, render}
 use Rattle.sheet.specs.Render.{sheetOf, Stored}
 use Rattle.sheet.proofs.Left.{Left, left-all, left-as, left-room, left-room-all, left-next, left-end, stored-as, room-as}
@@ -44,7 +44,7 @@ left4 c =
     let t = now (c .before .before .before .before .before .before .before .before .before .before .before .before .before .before .before .before .before .before .before .before .args .text) in
     let all = render (sheetOf l) in
     let before = left3 (c .before .before .before .before .before) in
-    left-next t 0 all (c .before .before .before .before .before .put-bytes2 .last .0) (c .before .before .before .before .before .put-bytes2 .result) (bytesOf stateLine (statesOf (now (c .before .before .before .before .before .before .before .before .before .before .before .before .before .before .before .before .before .before .before .before .args .table)))) (from-steps-names (sheetOf (now (c .before .before .before .before .before .before .before .before .before .before .before .before .before .before .before .before .before .before .before .before .args .table)))) before (c .write-states .last .1 .1 .0) (c .write-states .result) (stored-as (c .before .before .before .before .before .put-bytes2 .last .0) (c .before .before .before .before .before .put-bytes2 .result) (bytesOf stateLine (records stateOf 3 (c .before .before .before .before .before .before .before .before .before .before .before .before .before .before .before .before .before .counts-of .result .states) (now (c .before .before .states-part .result)))) (bytesOf stateLine (statesOf (now (c .before .before .before .before .before .before .before .before .before .before .before .before .before .before .before .before .before .before .before .before .args .table)))) (c .write-states .last .1 .1 .0) (c .write-states .result) (λ i. bytesOf stateLine (records stateOf 3 (c .before .before .before .before .before .before .before .before .before .before .before .before .before .before .before .before .before .counts-of .ensures i .states) (c .before .before .states-part .ensures i))) (c .write-states .ensures))
+    left-next t 0 all (c .before .before .before .before .before .put-bytes2 .last .0) (c .before .before .before .before .before .put-bytes2 .result) (bytesOf stateLine (statesOf (now (c .before .before .before .before .before .before .before .before .before .before .before .before .before .before .before .before .before .before .before .before .args .table)))) (from-steps-names (sheetOf (now (c .before .before .before .before .before .before .before .before .before .before .before .before .before .before .before .before .before .before .before .before .args .table)))) before (c .write-states .last .1 .1 .0) (c .write-states .result) (stored-as (c .before .before .before .before .before .put-bytes2 .last .0) (c .before .before .before .before .before .put-bytes2 .result) (bytesOf stateLine (records stateOf stateWidth (c .before .before .before .before .before .before .before .before .before .before .before .before .before .before .before .before .before .counts-of .result .states) (now (c .before .before .states-part .result)))) (bytesOf stateLine (statesOf (now (c .before .before .before .before .before .before .before .before .before .before .before .before .before .before .before .before .before .before .before .before .args .table)))) (c .write-states .last .1 .1 .0) (c .write-states .result) (λ i. bytesOf stateLine (records stateOf stateWidth (c .before .before .before .before .before .before .before .before .before .before .before .before .before .before .before .before .before .counts-of .ensures i .states) (c .before .before .states-part .ensures i))) (c .write-states .ensures))
 
 left5 : (c : tie.After-put-bytes3) → Left (now (c .before .before .before .before .before .before .before .before .before .before .before .before .before .before .before .before .before .before .before .before .before .before .before .before .before .args .text)) 0 (render (sheetOf (now (c .before .before .before .before .before .before .before .before .before .before .before .before .before .before .before .before .before .before .before .before .before .before .before .before .before .args .table)))) (c .put-bytes3 .last .0) (c .put-bytes3 .result) (from-steps (sheetOf (now (c .before .before .before .before .before .before .before .before .before .before .before .before .before .before .before .before .before .before .before .before .before .before .before .before .before .args .table))))
 left5 c =
@@ -60,7 +60,7 @@ left6 c =
     let t = now (c .before .before .before .before .before .before .before .before .before .before .before .before .before .before .before .before .before .before .before .before .before .before .before .before .before .before .before .before .before .before .args .text) in
     let all = render (sheetOf l) in
     let before = left5 (c .before .before .before .before .before) in
-    left-next t 0 all (c .before .before .before .before .before .put-bytes3 .last .0) (c .before .before .before .before .before .put-bytes3 .result) (bytesOf stepLine (stepsOf (now (c .before .before .before .before .before .before .before .before .before .before .before .before .before .before .before .before .before .before .before .before .before .before .before .before .before .before .before .before .before .before .args .table)))) (from-nodes-names (sheetOf (now (c .before .before .before .before .before .before .before .before .before .before .before .before .before .before .before .before .before .before .before .before .before .before .before .before .before .before .before .before .before .before .args .table)))) before (c .write-steps .last .1 .1 .0) (c .write-steps .result) (stored-as (c .before .before .before .before .before .put-bytes3 .last .0) (c .before .before .before .before .before .put-bytes3 .result) (bytesOf stepLine (records stepOf 2 (c .before .before .before .before .before .before .before .before .before .before .before .before .before .before .before .before .before .before .before .before .before .before .before .before .before .before .before .counts-of .result .steps) (now (c .before .before .steps-part .result)))) (bytesOf stepLine (stepsOf (now (c .before .before .before .before .before .before .before .before .before .before .before .before .before .before .before .before .before .before .before .before .before .before .before .before .before .before .before .before .before .before .args .table)))) (c .write-steps .last .1 .1 .0) (c .write-steps .result) (λ i. bytesOf stepLine (records stepOf 2 (c .before .before .before .before .before .before .before .before .before .before .before .before .before .before .before .before .before .before .before .before .before .before .before .before .before .before .before .counts-of .ensures i .steps) (c .before .before .steps-part .ensures i))) (c .write-steps .ensures))
+    left-next t 0 all (c .before .before .before .before .before .put-bytes3 .last .0) (c .before .before .before .before .before .put-bytes3 .result) (bytesOf stepLine (stepsOf (now (c .before .before .before .before .before .before .before .before .before .before .before .before .before .before .before .before .before .before .before .before .before .before .before .before .before .before .before .before .before .before .args .table)))) (from-nodes-names (sheetOf (now (c .before .before .before .before .before .before .before .before .before .before .before .before .before .before .before .before .before .before .before .before .before .before .before .before .before .before .before .before .before .before .args .table)))) before (c .write-steps .last .1 .1 .0) (c .write-steps .result) (stored-as (c .before .before .before .before .before .put-bytes3 .last .0) (c .before .before .before .before .before .put-bytes3 .result) (bytesOf stepLine (records stepOf stepWidth (c .before .before .before .before .before .before .before .before .before .before .before .before .before .before .before .before .before .before .before .before .before .before .before .before .before .before .before .counts-of .result .steps) (now (c .before .before .steps-part .result)))) (bytesOf stepLine (stepsOf (now (c .before .before .before .before .before .before .before .before .before .before .before .before .before .before .before .before .before .before .before .before .before .before .before .before .before .before .before .before .before .before .args .table)))) (c .write-steps .last .1 .1 .0) (c .write-steps .result) (λ i. bytesOf stepLine (records stepOf stepWidth (c .before .before .before .before .before .before .before .before .before .before .before .before .before .before .before .before .before .before .before .before .before .before .before .before .before .before .before .counts-of .ensures i .steps) (c .before .before .steps-part .ensures i))) (c .write-steps .ensures))
 
 left7 : (c : tie.After-put-bytes4) → Left (now (c .before .before .before .before .before .before .before .before .before .before .before .before .before .before .before .before .before .before .before .before .before .before .before .before .before .before .before .before .before .before .before .before .before .before .before .args .text)) 0 (render (sheetOf (now (c .before .before .before .before .before .before .before .before .before .before .before .before .before .before .before .before .before .before .before .before .before .before .before .before .before .before .before .before .before .before .before .before .before .before .before .args .table)))) (c .put-bytes4 .last .0) (c .put-bytes4 .result) (bytesOf nodeLine (nodesOf (now (c .before .before .before .before .before .before .before .before .before .before .before .before .before .before .before .before .before .before .before .before .before .before .before .before .before .before .before .before .before .before .before .before .before .before .before .args .table))))
 left7 c =
@@ -78,7 +78,7 @@ done c =
     let all = render (sheetOf l) in
     let p = c .write-nodes in
     let q = c .before .before .before .before .before .put-bytes4 in
-    left-end t 0 all (q .last .0) (q .result) (bytesOf nodeLine (nodesOf l)) (left7 (c .before .before .before .before .before)) (p .last .1 .1 .0) (p .result) (stored-as (q .last .0) (q .result) (bytesOf nodeLine (records nodeOf 3 (c .before .before .before .before .before .before .before .before .before .before .before .before .before .before .before .before .before .before .before .before .before .before .before .before .before .before .before .before .before .before .before .before .before .before .before .before .before .counts-of .result .nodes) (now (c .before .before .nodes-part .result)))) (bytesOf nodeLine (nodesOf l)) (p .last .1 .1 .0) (p .result) (λ i. bytesOf nodeLine (records nodeOf 3 (c .before .before .before .before .before .before .before .before .before .before .before .before .before .before .before .before .before .before .before .before .before .before .before .before .before .before .before .before .before .before .before .before .before .before .before .before .before .counts-of .ensures i .nodes) (c .before .before .nodes-part .ensures i))) (p .ensures))
+    left-end t 0 all (q .last .0) (q .result) (bytesOf nodeLine (nodesOf l)) (left7 (c .before .before .before .before .before)) (p .last .1 .1 .0) (p .result) (stored-as (q .last .0) (q .result) (bytesOf nodeLine (records nodeOf nodeWidth (c .before .before .before .before .before .before .before .before .before .before .before .before .before .before .before .before .before .before .before .before .before .before .before .before .before .before .before .before .before .before .before .before .before .before .before .before .before .counts-of .result .nodes) (now (c .before .before .nodes-part .result)))) (bytesOf nodeLine (nodesOf l)) (p .last .1 .1 .0) (p .result) (λ i. bytesOf nodeLine (records nodeOf nodeWidth (c .before .before .before .before .before .before .before .before .before .before .before .before .before .before .before .before .before .before .before .before .before .before .before .before .before .before .before .before .before .before .before .before .before .before .before .before .before .counts-of .ensures i .nodes) (c .before .before .nodes-part .ensures i))) (p .ensures))
 
 counts-of-requires : tie.Need-counts-of-requires
 counts-of-requires c κs = search needs
@@ -122,7 +122,7 @@ write-states-requires c κs =
     let t = now (c .before .before .before .before .before .before .before .before .before .before .before .before .before .before .before .before .before .before .before .args .text) in
     let all = render (sheetOf l) in
     let before = left3 (c .before .before .before .before) in
-    room-as (c .before .before .before .before .put-bytes2 .last .0) (c .before .before .before .before .put-bytes2 .result) (bytesOf stateLine (records stateOf 3 (c .before .before .before .before .before .before .before .before .before .before .before .before .before .before .before .before .counts-of .result .states) (now (c .before .states-part .result)))) (bytesOf stateLine (statesOf l)) (λ i. bytesOf stateLine (records stateOf 3 (c .before .before .before .before .before .before .before .before .before .before .before .before .before .before .before .before .counts-of .ensures i .states) (c .before .states-part .ensures i))) (left-room t 0 all (c .before .before .before .before .put-bytes2 .last .0) (c .before .before .before .before .put-bytes2 .result) (bytesOf stateLine (statesOf l)) (from-steps-names (sheetOf l)) before (c .before .before .before .before .before .before .before .before .before .before .before .before .before .before .before .before .before .before .before .pre))
+    room-as (c .before .before .before .before .put-bytes2 .last .0) (c .before .before .before .before .put-bytes2 .result) (bytesOf stateLine (records stateOf stateWidth (c .before .before .before .before .before .before .before .before .before .before .before .before .before .before .before .before .counts-of .result .states) (now (c .before .states-part .result)))) (bytesOf stateLine (statesOf l)) (λ i. bytesOf stateLine (records stateOf stateWidth (c .before .before .before .before .before .before .before .before .before .before .before .before .before .before .before .before .counts-of .ensures i .states) (c .before .states-part .ensures i))) (left-room t 0 all (c .before .before .before .before .put-bytes2 .last .0) (c .before .before .before .before .put-bytes2 .result) (bytesOf stateLine (statesOf l)) (from-steps-names (sheetOf l)) before (c .before .before .before .before .before .before .before .before .before .before .before .before .before .before .before .before .before .before .before .pre))
 
 slice-aggregate-put-bytes-3 : tie.Need-slice-aggregate-put-bytes-3
 slice-aggregate-put-bytes-3 c = search needs
@@ -144,7 +144,7 @@ write-steps-requires c κs =
     let t = now (c .before .before .before .before .before .before .before .before .before .before .before .before .before .before .before .before .before .before .before .before .before .before .before .before .before .before .before .before .before .args .text) in
     let all = render (sheetOf l) in
     let before = left5 (c .before .before .before .before) in
-    room-as (c .before .before .before .before .put-bytes3 .last .0) (c .before .before .before .before .put-bytes3 .result) (bytesOf stepLine (records stepOf 2 (c .before .before .before .before .before .before .before .before .before .before .before .before .before .before .before .before .before .before .before .before .before .before .before .before .before .before .counts-of .result .steps) (now (c .before .steps-part .result)))) (bytesOf stepLine (stepsOf l)) (λ i. bytesOf stepLine (records stepOf 2 (c .before .before .before .before .before .before .before .before .before .before .before .before .before .before .before .before .before .before .before .before .before .before .before .before .before .before .counts-of .ensures i .steps) (c .before .steps-part .ensures i))) (left-room t 0 all (c .before .before .before .before .put-bytes3 .last .0) (c .before .before .before .before .put-bytes3 .result) (bytesOf stepLine (stepsOf l)) (from-nodes-names (sheetOf l)) before (c .before .before .before .before .before .before .before .before .before .before .before .before .before .before .before .before .before .before .before .before .before .before .before .before .before .before .before .before .before .pre))
+    room-as (c .before .before .before .before .put-bytes3 .last .0) (c .before .before .before .before .put-bytes3 .result) (bytesOf stepLine (records stepOf stepWidth (c .before .before .before .before .before .before .before .before .before .before .before .before .before .before .before .before .before .before .before .before .before .before .before .before .before .before .counts-of .result .steps) (now (c .before .steps-part .result)))) (bytesOf stepLine (stepsOf l)) (λ i. bytesOf stepLine (records stepOf stepWidth (c .before .before .before .before .before .before .before .before .before .before .before .before .before .before .before .before .before .before .before .before .before .before .before .before .before .before .counts-of .ensures i .steps) (c .before .steps-part .ensures i))) (left-room t 0 all (c .before .before .before .before .put-bytes3 .last .0) (c .before .before .before .before .put-bytes3 .result) (bytesOf stepLine (stepsOf l)) (from-nodes-names (sheetOf l)) before (c .before .before .before .before .before .before .before .before .before .before .before .before .before .before .before .before .before .before .before .before .before .before .before .before .before .before .before .before .before .pre))
 
 slice-aggregate-put-bytes-4 : tie.Need-slice-aggregate-put-bytes-4
 slice-aggregate-put-bytes-4 c = search needs
@@ -166,7 +166,7 @@ write-nodes-requires c κs =
     let t = now (c .before .before .before .before .before .before .before .before .before .before .before .before .before .before .before .before .before .before .before .before .before .before .before .before .before .before .before .before .before .before .before .before .before .before .before .before .before .before .before .args .text) in
     let all = render (sheetOf l) in
     let before = left7 (c .before .before .before .before) in
-    room-as (c .before .before .before .before .put-bytes4 .last .0) (c .before .before .before .before .put-bytes4 .result) (bytesOf nodeLine (records nodeOf 3 (c .before .before .before .before .before .before .before .before .before .before .before .before .before .before .before .before .before .before .before .before .before .before .before .before .before .before .before .before .before .before .before .before .before .before .before .before .counts-of .result .nodes) (now (c .before .nodes-part .result)))) (bytesOf nodeLine (nodesOf l)) (λ i. bytesOf nodeLine (records nodeOf 3 (c .before .before .before .before .before .before .before .before .before .before .before .before .before .before .before .before .before .before .before .before .before .before .before .before .before .before .before .before .before .before .before .before .before .before .before .before .counts-of .ensures i .nodes) (c .before .nodes-part .ensures i))) (left-room-all t 0 all (c .before .before .before .before .put-bytes4 .last .0) (c .before .before .before .before .put-bytes4 .result) (bytesOf nodeLine (nodesOf l)) before (c .before .before .before .before .before .before .before .before .before .before .before .before .before .before .before .before .before .before .before .before .before .before .before .before .before .before .before .before .before .before .before .before .before .before .before .before .before .before .before .pre))
+    room-as (c .before .before .before .before .put-bytes4 .last .0) (c .before .before .before .before .put-bytes4 .result) (bytesOf nodeLine (records nodeOf nodeWidth (c .before .before .before .before .before .before .before .before .before .before .before .before .before .before .before .before .before .before .before .before .before .before .before .before .before .before .before .before .before .before .before .before .before .before .before .before .counts-of .result .nodes) (now (c .before .nodes-part .result)))) (bytesOf nodeLine (nodesOf l)) (λ i. bytesOf nodeLine (records nodeOf nodeWidth (c .before .before .before .before .before .before .before .before .before .before .before .before .before .before .before .before .before .before .before .before .before .before .before .before .before .before .before .before .before .before .before .before .before .before .before .before .counts-of .ensures i .nodes) (c .before .nodes-part .ensures i))) (left-room-all t 0 all (c .before .before .before .before .put-bytes4 .last .0) (c .before .before .before .before .put-bytes4 .result) (bytesOf nodeLine (nodesOf l)) before (c .before .before .before .before .before .before .before .before .before .before .before .before .before .before .before .before .before .before .before .before .before .before .before .before .before .before .before .before .before .before .before .before .before .before .before .before .before .before .before .pre))
 
 same-length : tie.Need-same-length
 same-length c = ap length (done (c .before .before) .text) ∙ length-sets (now (c .before .before .before .before .before .before .before .before .before .before .before .before .before .before .before .before .before .before .before .before .before .before .before .before .before .before .before .before .before .before .before .before .before .before .before .before .before .before .before .before .before .before .args .text)) 0 (render (sheetOf (now (c .before .before .before .before .before .before .before .before .before .before .before .before .before .before .before .before .before .before .before .before .before .before .before .before .before .before .before .before .before .before .before .before .before .before .before .before .before .before .before .before .before .before .args .table))))

@@ -5,7 +5,7 @@ use mathlib.Core.List.{List}
 use lib.ListN.{length}
 use denote.Ref.{now}
 use Rattle.table.specs.declared.counts.Counts.{Counts}
-use Rattle.table.specs.Table.{records, stateOf, stepOf, nodeOf, countsOf, statesPart, stepsPart, nodesPart, tableOf}
+use Rattle.table.specs.Table.{records, stateOf, stepOf, nodeOf, countsOf, statesPart, stepsPart, nodesPart, tableOf, stateWidth, stepWidth, nodeWidth}
 use Rattle.table.specs.Accept.{statesVerdict, stepsVerdict, nodesVerdict}
 use Rattle.table.proofs.Records.{records-length}
 use Rattle.table.proofs.Verdicts.{then-refused, then-next}
@@ -15,16 +15,16 @@ use Rattle.table.proofs.check.check_sections.Tie as tie
 
 -- the verdict of a section read with the table's counts is that of the table's records
 module _ (l : List ℕ) (k : Counts) (here : k ≡ countsOf l) where
-  of-states : (part : List ℕ) → part ≡ statesPart l → statesVerdict (k .props) (records stateOf 3 (k .states) part) ≡ statesVerdict (tableOf l .props) (tableOf l .states)
-  of-states part e i = statesVerdict (here i .props) (records stateOf 3 (here i .states) (e i))
+  of-states : (part : List ℕ) → part ≡ statesPart l → statesVerdict (k .props) (records stateOf stateWidth (k .states) part) ≡ statesVerdict (tableOf l .props) (tableOf l .states)
+  of-states part e i = statesVerdict (here i .props) (records stateOf stateWidth (here i .states) (e i))
 
-  of-steps : (part : List ℕ) → part ≡ stepsPart l → stepsVerdict (k .states) (records stepOf 2 (k .steps) part) ≡ stepsVerdict (length (tableOf l .states)) (tableOf l .steps)
+  of-steps : (part : List ℕ) → part ≡ stepsPart l → stepsVerdict (k .states) (records stepOf stepWidth (k .steps) part) ≡ stepsVerdict (length (tableOf l .states)) (tableOf l .steps)
   of-steps part e =
-      (λ i. stepsVerdict (here i .states) (records stepOf 2 (here i .steps) (e i)))
-      ∙ ap (λ (n : ℕ). stepsVerdict n (tableOf l .steps)) (sym (records-length stateOf 3 (countsOf l .states) (statesPart l)))
+      (λ i. stepsVerdict (here i .states) (records stepOf stepWidth (here i .steps) (e i)))
+      ∙ ap (λ (n : ℕ). stepsVerdict n (tableOf l .steps)) (sym (records-length stateOf stateWidth (countsOf l .states) (statesPart l)))
 
-  of-nodes : (part : List ℕ) → part ≡ nodesPart l → nodesVerdict (k .props) (records nodeOf 3 (k .nodes) part) ≡ nodesVerdict (tableOf l .props) (tableOf l .nodes)
-  of-nodes part e i = nodesVerdict (here i .props) (records nodeOf 3 (here i .nodes) (e i))
+  of-nodes : (part : List ℕ) → part ≡ nodesPart l → nodesVerdict (k .props) (records nodeOf nodeWidth (k .nodes) part) ≡ nodesVerdict (tableOf l .props) (tableOf l .nodes)
+  of-nodes part e i = nodesVerdict (here i .props) (records nodeOf nodeWidth (here i .nodes) (e i))
 
 states-part-requires : tie.Need-states-part-requires
 states-part-requires c κs = search needs

@@ -12,7 +12,7 @@ use native.Mathlib.Omega.{arith}
 use borrow.Author.Needs.{needs}
 use lib.ListN.{drop}
 use denote.Ref.{now}
-use Rattle.table.specs.Table.{records, nodeOf}
+use Rattle.table.specs.Table.{records, nodeOf, nodeWidth}
 use Rattle.table.proofs.Records.{records-done}
 use Rattle.table.proofs.Scan.{record-nodes}
 use Rattle.table.proofs.nodes.check_nodes.Statement.{statement}
@@ -23,7 +23,7 @@ tested : (p i : ℕ) (x : Node) (s : Shape) → s ≡ shapeOf (x .kind) → (b :
 tested p i x s e b f = f ∙ ap (λ (t : Shape). fieldsFit t p i (x .a) (x .b)) e
 
 abbrev Inv-loop : tie.InvT-loop
-Inv-loop section f p i₀ i = (i ≤ f) × (nodesFit p 0 (records nodeOf 3 f section) ≡ nodesFit p i (drop i (records nodeOf 3 f section)))
+Inv-loop section f p i₀ i = (i ≤ f) × (nodesFit p 0 (records nodeOf nodeWidth f section) ≡ nodesFit p i (drop i (records nodeOf nodeWidth f section)))
 
 abbrev μ-loop : tie.MeasureT-loop
 μ-loop section f p i₀ i = f - i
@@ -47,7 +47,7 @@ returns c =
     let x = c .before .before .before .node-at .result in
     let fails : nodeFits (a .p) i x ≡ false =
     sym (tested (a .p) i x (c .before .before .shape-of .result) (c .before .before .shape-of .ensures) (c .before .fields-fit .result) (c .before .fields-fit .ensures)) ∙ not-true _ (c .if1 .taken) in
-    let whole = c .before .before .before .before .before .loop .inv .1 ∙ record-nodes (a .p) nodeOf 3 (a .f) (now (a .section)) i (c .before .before .before .before .loop-test .taken) x (c .before .before .before .node-at .ensures) ∙ ap (λ (b : Bool). b && nodesFit (a .p) (i + 1) (drop (i + 1) (records nodeOf 3 (a .f) (now (a .section))))) fails in
+    let whole = c .before .before .before .before .before .loop .inv .1 ∙ record-nodes (a .p) nodeOf nodeWidth (a .f) (now (a .section)) i (c .before .before .before .before .loop-test .taken) x (c .before .before .before .node-at .ensures) ∙ ap (λ (b : Bool). b && nodesFit (a .p) (i + 1) (drop (i + 1) (records nodeOf nodeWidth (a .f) (now (a .section))))) fails in
     ap (require NodeRecord) (sym whole)
 
 add-i : tie.Need-add-i Inv-loop μ-loop
@@ -63,14 +63,14 @@ loop-again c =
     let x = c .before .before .before .node-at .result in
     let fits : nodeFits (a .p) i x ≡ true =
     sym (tested (a .p) i x (c .before .before .shape-of .result) (c .before .before .shape-of .ensures) (c .before .fields-fit .result) (c .before .fields-fit .ensures)) ∙ not-false _ (c .if1 .left) in
-    (omega arith, c .before .before .before .before .before .loop .inv .1 ∙ record-nodes (a .p) nodeOf 3 (a .f) (now (a .section)) i (c .before .before .before .before .loop-test .taken) x (c .before .before .before .node-at .ensures) ∙ ap (λ (b : Bool). b && nodesFit (a .p) (i + 1) (drop (i + 1) (records nodeOf 3 (a .f) (now (a .section))))) fits)
+    (omega arith, c .before .before .before .before .before .loop .inv .1 ∙ record-nodes (a .p) nodeOf nodeWidth (a .f) (now (a .section)) i (c .before .before .before .before .loop-test .taken) x (c .before .before .before .node-at .ensures) ∙ ap (λ (b : Bool). b && nodesFit (a .p) (i + 1) (drop (i + 1) (records nodeOf nodeWidth (a .f) (now (a .section))))) fits)
 
 returns-2 : tie.Need-returns-2 Inv-loop μ-loop
 unfolding nodesFit
 returns-2 c =
     let a = c .before .before .before .args in
     let i = c .before .loop .i in
-    ap (require NodeRecord) (sym (c .before .loop .inv .1 ∙ ap (nodesFit (a .p) i) (records-done nodeOf 3 (a .f) (now (a .section)) i (c .loop-test .left))))
+    ap (require NodeRecord) (sym (c .before .loop .inv .1 ∙ ap (nodesFit (a .p) i) (records-done nodeOf nodeWidth (a .f) (now (a .section)) i (c .loop-test .left))))
 
 pub check-nodes-spec : {M : Type 1} → statement M
 check-nodes-spec =

@@ -4,7 +4,7 @@ use Prim.Native.Nat.{_*_}
 use native.Mathlib.Omega.{arith}
 use lib.Seq.{getD-drop}
 use denote.Ref.{now}
-use Rattle.table.specs.Table.{nodeOf}
+use Rattle.table.specs.Table.{nodeOf, nodeWidth}
 use Rattle.table.proofs.Records.{field-first, past}
 use borrow.Author.Needs.{needs}
 use Rattle.table.proofs.record.node_at.Statement.{statement}
@@ -38,9 +38,9 @@ returns-2 c =
     let a = c .before .before .before .before .before .args in
     let l = now (a .section) in
     λ i. record {
-      kind = (c .before .before .byte-at .ensures ∙ sym (field-first (3 * a .i) l)) i;
-      a = (c .before .byte-at2 .ensures ∙ sym (getD-drop (3 * a .i) l 1 0)) i;
-      b = (c .byte-at3 .ensures ∙ sym (getD-drop (3 * a .i) l 2 0)) i;
+      kind = (c .before .before .byte-at .ensures ∙ sym (field-first (nodeWidth * a .i) l)) i;
+      a = (c .before .byte-at2 .ensures ∙ sym (getD-drop (nodeWidth * a .i) l 1 0)) i;
+      b = (c .byte-at3 .ensures ∙ sym (getD-drop (nodeWidth * a .i) l 2 0)) i;
     }
 
 pub node-at-spec : {M : Type 1} → statement M

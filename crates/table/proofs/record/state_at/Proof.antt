@@ -4,7 +4,7 @@ use Prim.Native.Nat.{ℕ, _*_, _+_}
 use native.Mathlib.Omega.{arith}
 use lib.Seq.{getD-drop}
 use denote.Ref.{now}
-use Rattle.table.specs.Table.{stateOf}
+use Rattle.table.specs.Table.{stateOf, stateWidth}
 use Rattle.table.proofs.Records.{field-first, past}
 use borrow.Author.Needs.{needs}
 use Rattle.table.proofs.record.state_at.Statement.{statement}
@@ -34,18 +34,18 @@ byte-at-requires-3 : tie.Need-byte-at-requires-3
 byte-at-requires-3 c κs = search needs
 
 mul-t7 : tie.Need-mul-t7
-mul-t7 c = omega (arith, c .before .byte-at2 .ensures, c .before .before .before .before .shared-slice-known .given (3 * c .before .before .before .before .before .args .i + 2))
+mul-t7 c = omega (arith, c .before .byte-at2 .ensures, c .before .before .before .before .shared-slice-known .given (stateWidth * c .before .before .before .before .before .args .i + 2))
 
 add-t9 : tie.Need-add-t9
-add-t9 c = omega (arith, c .before .byte-at2 .ensures, c .before .before .byte-at .ensures, c .before .before .before .before .shared-slice-known .given (3 * c .before .before .before .before .before .args .i + 2), c .before .before .before .before .shared-slice-known .given (3 * c .before .before .before .before .before .args .i + 1))
+add-t9 c = omega (arith, c .before .byte-at2 .ensures, c .before .before .byte-at .ensures, c .before .before .before .before .shared-slice-known .given (stateWidth * c .before .before .before .before .before .args .i + 2), c .before .before .before .before .shared-slice-known .given (stateWidth * c .before .before .before .before .before .args .i + 1))
 
 returns-2 : tie.Need-returns-2
 returns-2 c =
     let a = c .before .before .before .before .before .args in
     let l = now (a .section) in
     λ i. record {
-      initial = (c .byte-at3 .ensures ∙ sym (field-first (3 * a .i) l)) i;
-      label = (ap₂ (λ (x y : ℕ). x + 256 * y) (c .before .before .byte-at .ensures ∙ sym (getD-drop (3 * a .i) l 1 0)) (c .before .byte-at2 .ensures ∙ sym (getD-drop (3 * a .i) l 2 0))) i;
+      initial = (c .byte-at3 .ensures ∙ sym (field-first (stateWidth * a .i) l)) i;
+      label = (ap₂ (λ (x y : ℕ). x + 256 * y) (c .before .before .byte-at .ensures ∙ sym (getD-drop (stateWidth * a .i) l 1 0)) (c .before .byte-at2 .ensures ∙ sym (getD-drop (stateWidth * a .i) l 2 0))) i;
     }
 
 pub state-at-spec : {M : Type 1} → statement M

@@ -4,7 +4,7 @@ use Prim.Native.Nat.{_*_}
 use native.Mathlib.Omega.{arith}
 use lib.Seq.{getD-drop}
 use denote.Ref.{now}
-use Rattle.table.specs.Table.{stepOf}
+use Rattle.table.specs.Table.{stepOf, stepWidth}
 use Rattle.table.proofs.Records.{field-first, past}
 use borrow.Author.Needs.{needs}
 use Rattle.table.proofs.record.step_at.Statement.{statement}
@@ -32,8 +32,8 @@ returns-2 c =
     let a = c .before .before .before .before .args in
     let l = now (a .section) in
     λ i. record {
-      from = (c .before .byte-at .ensures ∙ sym (field-first (2 * a .i) l)) i;
-      to = (c .byte-at2 .ensures ∙ sym (getD-drop (2 * a .i) l 1 0)) i;
+      from = (c .before .byte-at .ensures ∙ sym (field-first (stepWidth * a .i) l)) i;
+      to = (c .byte-at2 .ensures ∙ sym (getD-drop (stepWidth * a .i) l 1 0)) i;
     }
 
 pub step-at-spec : {M : Type 1} → statement M

@@ -8,6 +8,7 @@ use Rattle.table.specs.declared.counts.Counts.{Counts}
 use borrow.Author.Needs.{needs}
 use Rattle.table.proofs.section.nodes_part.Statement.{statement}
 use Rattle.table.proofs.section.nodes_part.Tie as tie
+use Rattle.table.specs.Table.{headerWidth, stateWidth, stepWidth, nodeWidth}
 
 counts-of-requires : tie.Need-counts-of-requires
 counts-of-requires c κs = search needs
@@ -33,7 +34,7 @@ part-of-requires c κs = search needs
 returns : tie.Need-returns
 returns c =
     let l = now (c .before .before .before .before .before .before .args .table) in
-    c .part-of .ensures ∙ ap (λ (k : Counts). take (3 * k .nodes) (drop (4 + 3 * k .states + 2 * k .steps) l)) (c .before .before .before .before .counts-of .ensures)
+    c .part-of .ensures ∙ ap (λ (k : Counts). take (nodeWidth * k .nodes) (drop (headerWidth + stateWidth * k .states + stepWidth * k .steps) l)) (c .before .before .before .before .counts-of .ensures)
 
 pub nodes-part-spec : {M : Type 1} → statement M
 nodes-part-spec =

@@ -8,6 +8,7 @@ use Rattle.table.specs.declared.counts.Counts.{Counts}
 use borrow.Author.Needs.{needs}
 use Rattle.table.proofs.section.states_part.Statement.{statement}
 use Rattle.table.proofs.section.states_part.Tie as tie
+use Rattle.table.specs.Table.{headerWidth, stateWidth}
 
 counts-of-requires : tie.Need-counts-of-requires
 counts-of-requires c κs = search needs
@@ -21,7 +22,7 @@ part-of-requires c κs = search needs
 returns : tie.Need-returns
 returns c =
     let l = now (c .before .before .before .before .args .table) in
-    c .part-of .ensures ∙ ap (λ (k : Counts). take (3 * k .states) (drop 4 l)) (c .before .before .counts-of .ensures)
+    c .part-of .ensures ∙ ap (λ (k : Counts). take (stateWidth * k .states) (drop headerWidth l)) (c .before .before .counts-of .ensures)
 
 pub states-part-spec : {M : Type 1} → statement M
 states-part-spec = tie.close (tie.spec counts-of-requires mul-part-of part-of-requires returns)

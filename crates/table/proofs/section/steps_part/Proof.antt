@@ -8,6 +8,7 @@ use Rattle.table.specs.declared.counts.Counts.{Counts}
 use borrow.Author.Needs.{needs}
 use Rattle.table.proofs.section.steps_part.Statement.{statement}
 use Rattle.table.proofs.section.steps_part.Tie as tie
+use Rattle.table.specs.Table.{headerWidth, stateWidth, stepWidth}
 
 counts-of-requires : tie.Need-counts-of-requires
 counts-of-requires c κs = search needs
@@ -27,7 +28,7 @@ part-of-requires c κs = search needs
 returns : tie.Need-returns
 returns c =
     let l = now (c .before .before .before .before .before .args .table) in
-    c .part-of .ensures ∙ ap (λ (k : Counts). take (2 * k .steps) (drop (4 + 3 * k .states) l)) (c .before .before .before .counts-of .ensures)
+    c .part-of .ensures ∙ ap (λ (k : Counts). take (stepWidth * k .steps) (drop (headerWidth + stateWidth * k .states) l)) (c .before .before .before .counts-of .ensures)
 
 pub steps-part-spec : {M : Type 1} → statement M
 steps-part-spec =

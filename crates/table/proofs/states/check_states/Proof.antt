@@ -10,7 +10,7 @@ use native.Mathlib.Omega.{arith}
 use borrow.Author.Needs.{needs}
 use lib.ListN.{drop}
 use denote.Ref.{now}
-use Rattle.table.specs.Table.{records, stateOf}
+use Rattle.table.specs.Table.{records, stateOf, stateWidth}
 use Rattle.table.specs.Accept.{all, any, stateFits, isInitial}
 use Rattle.table.proofs.Records.{records-done}
 use Rattle.table.proofs.Scan.{record-all, record-any}
@@ -20,8 +20,8 @@ use Rattle.table.proofs.states.check_states.Tie as tie
 abbrev Inv-loop : tie.InvT-loop
 Inv-loop section n p found₀ i₀ found i =
     (i ≤ n)
-    × (all (stateFits p) (records stateOf 3 n section) ≡ all (stateFits p) (drop i (records stateOf 3 n section)))
-    × (any isInitial (records stateOf 3 n section) ≡ found || any isInitial (drop i (records stateOf 3 n section)))
+    × (all (stateFits p) (records stateOf stateWidth n section) ≡ all (stateFits p) (drop i (records stateOf stateWidth n section)))
+    × (any isInitial (records stateOf stateWidth n section) ≡ found || any isInitial (drop i (records stateOf stateWidth n section)))
 
 abbrev μ-loop : tie.MeasureT-loop
 μ-loop section n p found₀ i₀ found i = n - i
@@ -40,9 +40,9 @@ returns c =
     let a = c .before .before .before .before .before .before .args in
     let i = c .before .before .before .before .loop .i in
     let x = c .before .before .state-at .result in
-    let xs = records stateOf 3 (a .n) (now (a .section)) in
+    let xs = records stateOf stateWidth (a .n) (now (a .section)) in
     let fails : stateFits (a .p) x ≡ false = sym (c .before .state-fits .ensures) ∙ not-true _ (c .if1 .taken) in
-    let whole : all (stateFits (a .p)) xs ≡ false = c .before .before .before .before .loop .inv .1 ∙ record-all stateOf 3 (a .n) (now (a .section)) i (c .before .before .before .loop-test .taken) x (c .before .before .state-at .ensures) (stateFits (a .p)) ∙ ap (λ (b : Bool). b && all (stateFits (a .p)) (drop (i + 1) xs)) fails in
+    let whole : all (stateFits (a .p)) xs ≡ false = c .before .before .before .before .loop .inv .1 ∙ record-all stateOf stateWidth (a .n) (now (a .section)) i (c .before .before .before .loop-test .taken) x (c .before .before .state-at .ensures) (stateFits (a .p)) ∙ ap (λ (b : Bool). b && all (stateFits (a .p)) (drop (i + 1) xs)) fails in
     ap (λ (b : Bool). require StateRecord b then require NoInitial (any isInitial xs)) (sym whole)
 
 add-i : tie.Need-add-i Inv-loop μ-loop
@@ -56,7 +56,7 @@ loop-again c =
     let a = c .before .before .before .before .before .before .before .args in
     let i = c .before .before .before .before .before .loop .i in
     let x = c .before .before .before .state-at .result in
-    let xs = records stateOf 3 (a .n) (now (a .section)) in
+    let xs = records stateOf stateWidth (a .n) (now (a .section)) in
     let h = c .before .before .before .before .loop-test .taken in
     let here = c .before .before .before .state-at .ensures in
     let fits : stateFits (a .p) x ≡ true = sym (c .before .before .state-fits .ensures) ∙ not-false _ (c .before .if1 .left) in
@@ -67,19 +67,19 @@ loop-again c =
     (λ w. inv ∙ ap (λ (b : Bool). b || any isInitial (drop i xs)) (w .0 .taken) ∙ sym (ap (λ (b : Bool). b || rest) (w .1 ∙ w .0 .taken)))
     (λ w. inv
     ∙ ap (λ (b : Bool). b || any isInitial (drop i xs)) (w .0 .left)
-    ∙ record-any stateOf 3 (a .n) (now (a .section)) i h x here isInitial
+    ∙ record-any stateOf stateWidth (a .n) (now (a .section)) i h x here isInitial
     ∙ sym (ap (λ (b : Bool). b || rest) (w .2)))
     (c .if2 .came)
     in
-    (omega arith, c .before .before .before .before .before .loop .inv .1 ∙ record-all stateOf 3 (a .n) (now (a .section)) i h x here (stateFits (a .p)) ∙ ap (λ (b : Bool). b && all (stateFits (a .p)) (drop (i + 1) xs)) fits, found)
+    (omega arith, c .before .before .before .before .before .loop .inv .1 ∙ record-all stateOf stateWidth (a .n) (now (a .section)) i h x here (stateFits (a .p)) ∙ ap (λ (b : Bool). b && all (stateFits (a .p)) (drop (i + 1) xs)) fits, found)
 
 returns-2 : tie.Need-returns-2 Inv-loop μ-loop
 unfolding all any
 returns-2 c =
     let a = c .before .before .before .before .args in
     let i = c .before .before .loop .i in
-    let xs = records stateOf 3 (a .n) (now (a .section)) in
-    let done = records-done stateOf 3 (a .n) (now (a .section)) i (c .before .loop-test .left) in
+    let xs = records stateOf stateWidth (a .n) (now (a .section)) in
+    let done = records-done stateOf stateWidth (a .n) (now (a .section)) i (c .before .loop-test .left) in
     let fit : all (stateFits (a .p)) xs ≡ true = c .before .before .loop .inv .1 ∙ ap (all (stateFits (a .p))) done in
     let found : any isInitial xs ≡ true = c .before .before .loop .inv .2 ∙ ap (λ (b : Bool). b || any isInitial (drop i xs)) (c .if3 .taken) in
     sym (ap (λ (b : Bool). require StateRecord b then require NoInitial (any isInitial xs)) fit ∙ ap (require NoInitial) found)
@@ -89,8 +89,8 @@ unfolding all any
 returns-3 c =
     let a = c .before .before .before .before .args in
     let i = c .before .before .loop .i in
-    let xs = records stateOf 3 (a .n) (now (a .section)) in
-    let done = records-done stateOf 3 (a .n) (now (a .section)) i (c .before .loop-test .left) in
+    let xs = records stateOf stateWidth (a .n) (now (a .section)) in
+    let done = records-done stateOf stateWidth (a .n) (now (a .section)) i (c .before .loop-test .left) in
     let fit : all (stateFits (a .p)) xs ≡ true = c .before .before .loop .inv .1 ∙ ap (all (stateFits (a .p))) done in
     let missing : any isInitial xs ≡ false = c .before .before .loop .inv .2 ∙ ap (λ (b : Bool). b || any isInitial (drop i xs)) (c .if3 .left) ∙ ap (any isInitial) done in
     sym (ap (λ (b : Bool). require StateRecord b then require NoInitial (any isInitial xs)) fit ∙ ap (require NoInitial) missing)

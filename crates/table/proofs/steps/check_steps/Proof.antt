@@ -15,7 +15,7 @@ use denote.Ref.{now}
 use Rattle.table.specs.declared.record.Step.{Step}
 use Rattle.table.specs.declared.refusal.Refusal.the-variants.{StepEnd, RepeatedStep}
 use Rattle.table.specs.Verdict.{require, _then_}
-use Rattle.table.specs.Table.{records, stepOf}
+use Rattle.table.specs.Table.{records, stepOf, stepWidth}
 use Rattle.table.specs.Accept.{all, stepFits, distinct}
 use Rattle.table.proofs.Accepted.{step-within}
 use Rattle.table.proofs.Scan.{record-all, record-take}
@@ -33,9 +33,9 @@ ends n x b few e t =
 abbrev Inv-loop : tie.InvT-loop
 Inv-loop section e n given₀ repeated₀ j₀ given repeated j =
     (j ≤ e)
-    × (all (stepFits n) (records stepOf 2 e section) ≡ all (stepFits n) (drop j (records stepOf 2 e section)))
-    × Rows given (take j (records stepOf 2 e section))
-    × (repeated ≡ not (distinct (take j (records stepOf 2 e section))))
+    × (all (stepFits n) (records stepOf stepWidth e section) ≡ all (stepFits n) (drop j (records stepOf stepWidth e section)))
+    × Rows given (take j (records stepOf stepWidth e section))
+    × (repeated ≡ not (distinct (take j (records stepOf stepWidth e section))))
 
 abbrev μ-loop : tie.MeasureT-loop
 μ-loop section e n given₀ repeated₀ j₀ given repeated j = e - j
@@ -55,9 +55,9 @@ returns c =
     let a = c .before .before .before .before .before .before .args in
     let j = c .before .before .before .before .loop .j in
     let x = c .before .before .step-at .result in
-    let xs = records stepOf 2 (a .e) (now (a .section)) in
+    let xs = records stepOf stepWidth (a .e) (now (a .section)) in
     let fails : stepFits (a .n) x ≡ false = sym (c .before .step-fits .ensures) ∙ not-true _ (c .if1 .taken) in
-    let whole : all (stepFits (a .n)) xs ≡ false = c .before .before .before .before .loop .inv .1 ∙ record-all stepOf 2 (a .e) (now (a .section)) j (c .before .before .before .loop-test .taken) x (c .before .before .step-at .ensures) (stepFits (a .n)) ∙ ap (λ (b : Bool). b && all (stepFits (a .n)) (drop (j + 1) xs)) fails in
+    let whole : all (stepFits (a .n)) xs ≡ false = c .before .before .before .before .loop .inv .1 ∙ record-all stepOf stepWidth (a .e) (now (a .section)) j (c .before .before .before .loop-test .taken) x (c .before .before .step-at .ensures) (stepFits (a .n)) ∙ ap (λ (b : Bool). b && all (stepFits (a .n)) (drop (j + 1) xs)) fails in
     ap (λ (b : Bool). require StepEnd b then require RepeatedStep (distinct xs)) (sym whole)
 
 mul-row : tie.Need-mul-row Inv-loop μ-loop
@@ -90,14 +90,14 @@ loop-again c =
     let l = now (a .section) in
     let j = c .before .before .before .before .before .before .loop .j in
     let x = c .before .before .before .before .step-at .result in
-    let xs = records stepOf 2 (a .e) l in
+    let xs = records stepOf stepWidth (a .e) l in
     let h = c .before .before .before .before .before .loop-test .taken in
     let here = c .before .before .before .before .step-at .ensures in
     let fits : c .before .before .before .step-fits .result ≡ true = not-false _ (c .before .before .if1 .left) in
     let in-range = ends (a .n) x (c .before .before .before .step-fits .result) (c .before .before .before .before .before .before .before .before .pre) (c .before .before .before .step-fits .ensures) fits in
     let g = c .before .before .before .before .before .before .loop .inv .2 in
     let rows = c .before .before .before .before .before .before .loop .given in
-    let seam : take (j + 1) xs ≡ take j xs ++ (x ∷ []) = record-take stepOf 2 (a .e) l j h x here in
+    let seam : take (j + 1) xs ≡ take j xs ++ (x ∷ []) = record-take stepOf stepWidth (a .e) l j h x here in
     let more : Rows (set rows (x .from) (c .insert .result)) (take (j + 1) xs) =
     rw seam (rw (c .insert .ensures) (rows-more rows (take j xs) g x (in-range .0) (in-range .1))) in
     let whole : not (distinct (take (j + 1) xs)) ≡ c .before .before .before .before .before .before .loop .repeated || member (getD rows (x .from) 0) (x .to) =
@@ -108,7 +108,7 @@ loop-again c =
     (λ w. w .2 ∙ w .1 .ensures ∙ sym (whole ∙ ap (λ (b : Bool). b || member (getD rows (x .from) 0) (x .to)) (w .0 .left)))
     (c .before .if2 .came) in (
       omega arith,
-      c .before .before .before .before .before .before .loop .inv .1 ∙ record-all stepOf 2 (a .e) l j h x here (stepFits (a .n)) ∙ ap (λ (b : Bool). b && all (stepFits (a .n)) (drop (j + 1) xs)) (sym (c .before .before .before .step-fits .ensures) ∙ fits),
+      c .before .before .before .before .before .before .loop .inv .1 ∙ record-all stepOf stepWidth (a .e) l j h x here (stepFits (a .n)) ∙ ap (λ (b : Bool). b && all (stepFits (a .n)) (drop (j + 1) xs)) (sym (c .before .before .before .step-fits .ensures) ∙ fits),
       more,
       again,
     )
@@ -119,10 +119,10 @@ returns-2 c =
     let a = c .before .before .before .before .args in
     let l = now (a .section) in
     let j = c .before .before .loop .j in
-    let xs = records stepOf 2 (a .e) l in
+    let xs = records stepOf stepWidth (a .e) l in
     let e : j ≡ a .e = omega arith in
-    let fit : all (stepFits (a .n)) xs ≡ true = c .before .before .loop .inv .1 ∙ ap (all (stepFits (a .n))) (records-done stepOf 2 (a .e) l j (c .before .loop-test .left)) in
-    let all-of : take j xs ≡ xs = take-all j xs (omega (arith, records-length stepOf 2 (a .e) l)) in
+    let fit : all (stepFits (a .n)) xs ≡ true = c .before .before .loop .inv .1 ∙ ap (all (stepFits (a .n))) (records-done stepOf stepWidth (a .e) l j (c .before .loop-test .left)) in
+    let all-of : take j xs ≡ xs = take-all j xs (omega (arith, records-length stepOf stepWidth (a .e) l)) in
     let rep : distinct xs ≡ false = not-true _ (sym (c .before .before .loop .inv .3 ∙ ap (λ (ys : List Step). not (distinct ys)) all-of) ∙ c .if3 .taken) in
     sym (ap (λ (b : Bool). require StepEnd b then require RepeatedStep (distinct xs)) fit ∙ ap (require RepeatedStep) rep)
 
@@ -132,9 +132,9 @@ returns-3 c =
     let a = c .before .before .before .before .args in
     let l = now (a .section) in
     let j = c .before .before .loop .j in
-    let xs = records stepOf 2 (a .e) l in
-    let fit : all (stepFits (a .n)) xs ≡ true = c .before .before .loop .inv .1 ∙ ap (all (stepFits (a .n))) (records-done stepOf 2 (a .e) l j (c .before .loop-test .left)) in
-    let all-of : take j xs ≡ xs = take-all j xs (omega (arith, records-length stepOf 2 (a .e) l)) in
+    let xs = records stepOf stepWidth (a .e) l in
+    let fit : all (stepFits (a .n)) xs ≡ true = c .before .before .loop .inv .1 ∙ ap (all (stepFits (a .n))) (records-done stepOf stepWidth (a .e) l j (c .before .loop-test .left)) in
+    let all-of : take j xs ≡ xs = take-all j xs (omega (arith, records-length stepOf stepWidth (a .e) l)) in
     let rep : distinct xs ≡ true = not-false _ (sym (c .before .before .loop .inv .3 ∙ ap (λ (ys : List Step). not (distinct ys)) all-of) ∙ c .if3 .left) in
     sym (ap (λ (b : Bool). require StepEnd b then require RepeatedStep (distinct xs)) fit ∙ ap (require RepeatedStep) rep)
 
