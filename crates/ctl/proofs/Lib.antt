@@ -8,3 +8,4 @@ pub mod Targets
 pub mod Meaning
 pub mod Repair
 pub mod Mistakes
+pub mod OfKind

@@ -15,6 +15,7 @@ use Rattle.sets.proofs.SetOf.{setOf-lt, member-setOf-below, empty}
 use Rattle.table.specs.declared.record.State.{State}
 use Rattle.table.specs.Table.{Table, stateWidth, stateOf, stateAt}
 use Rattle.table.specs.Facts.{Wellformed}
+use Rattle.table.specs.StateSets.{initialWord, labelledWord}
 use Rattle.ctl.specs.Kept.{Total}
 use Rattle.ctl.specs.Levels.{tabulate}
 use Rattle.ctl.specs.Labels.{isKept}
@@ -22,7 +23,7 @@ use Rattle.ctl.specs.Tests.{isTotal}
 use Rattle.ctl.proofs.Tabulate.{member-tabulate, tabulate-member, all-true}
 use Rattle.ctl.proofs.Targets.{targets-sound, targets-complete, is-kept, next-inside}
 use Rattle.ctl.proofs.Repair.{is-total}
-use Rattle.label.specs.Words.{keptWord, totalRows, initialWord, labelledWord}
+use Rattle.label.specs.Words.{keptWord, totalRows}
 use Rattle.label.proofs.Marks.{same-test, wider}
 use Rattle.label.proofs.Next.{KeptRows, row-member, row-kept}
 

@@ -1,7 +1,6 @@
 pub mod Order
 pub mod Analysed
 pub mod KeptSteps
-pub mod ReadNode
 pub mod Marks
 pub mod Next
 pub mod Levels

@@ -1,13 +1,13 @@
 -- Labels on machine words: a set of states is a number, its bits the states. `rows` has the set of kept next states of each state.
-use Prim.Native.Nat.{ℕ, zero, suc, _*_, _-_}
+use Prim.Native.Nat.{ℕ, zero, suc, _-_}
 use mathlib.Core.Bool.{Bool, true, false, not, _&&_}
 use mathlib.Core.List.{List, [], _∷_}
 use lib.Bits.{bitAnd, bitOr}
 use lib.Dec.{eqb}
-use lib.ListN.{getD, set, drop}
+use lib.ListN.{getD, set}
 use Rattle.sets.specs.Member.{member, setOf}
 use Rattle.table.specs.declared.record.Node.{Node}
-use Rattle.table.specs.Table.{stateWidth, stateOf}
+use Rattle.table.specs.StateSets.{labelledWord}
 use Rattle.table.specs.Accept.{all}
 use Rattle.ctl.specs.Rule.{Quantifier, every, some, Operator, constant, atom, negation, conjunction, disjunction, next, release, operatorOf}
 use Rattle.ctl.specs.Levels.{below}
@@ -47,13 +47,6 @@ keptWord rows n = setOf n (λ s. not (eqb (getD rows s 0) 0))
 -- every next state of every state is kept
 abbrev pub totalRows : List ℕ → ℕ → Bool
 totalRows rows kept = all (λ s. eqb (setOf 32 (λ t. member (getD rows s 0) t && not (member kept t))) 0) (below 32)
-
--- read off the section of the states: the initial states, and those with p in their label
-abbrev pub initialWord : List ℕ → ℕ → ℕ
-initialWord states n = setOf n (λ s. eqb (stateOf (drop (stateWidth * s) states) .initial) 1)
-
-abbrev pub labelledWord : List ℕ → ℕ → ℕ → ℕ
-labelledWord states n p = setOf n (λ s. member (stateOf (drop (stateWidth * s) states) .label) p)
 
 module _ (rows : List ℕ) (kept n : ℕ) (states : List ℕ) where
   -- the set of a node, from the sets of the nodes before it

@@ -3,7 +3,6 @@ use crate::pass::label_pass;
 use crate::rows::is_total;
 use crate::rows::kept_rows;
 use crate::rows::kept_states;
-use crate::states::initial_states;
 use table::Refusal;
 use table::Verdict;
 ghost use mathlib.Core.Path.{_≡_};
@@ -81,7 +80,7 @@ fn analysed(table: &[u8], list: &[u8], n: usize, f: usize) -> Analysis
     let words = label_pass([0; 32], table, rows, kept);
     Analysis {
         verdict: Verdict::Accepted,
-        initial: initial_states(table::states_part(table), n),
+        initial: table::initial_states(table::states_part(table), n),
         kept: kept,
         root: root_set(words, f),
         words: words,

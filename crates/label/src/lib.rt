@@ -5,7 +5,6 @@ mod label;
 mod pass;
 mod release;
 mod rows;
-mod states;
 
 pub use analysis::Analysis;
 pub use analysis::Room;

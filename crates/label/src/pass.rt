@@ -2,7 +2,6 @@
 use crate::release::Quantifier;
 use crate::release::next_states;
 use crate::release::release_states;
-use crate::states::labelled_states;
 use table::Node;
 ghost use mathlib.Core.Path.{_≡_};
 ghost use Prim.Native.Nat.{_≤_, _<_};
@@ -31,7 +30,7 @@ fn node_states(
     let b = x.b;
     match kind {
         1 => kept,
-        2 => kept & labelled_states(states, n, a),
+        2 => kept & table::labelled_states(states, n, a),
         3 => kept & !words[a],
         4 => words[a] & words[b],
         5 => words[a] | words[b],

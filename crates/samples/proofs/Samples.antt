@@ -12,9 +12,10 @@ use Rattle.circuit.specs.Logic.{gateClauses}
 use Rattle.circuit.specs.Variables.{concat, outOf, nodeVariables, variables}
 use Rattle.circuit.specs.Gates.{nodeGates, gates}
 use Rattle.circuit.specs.Clauses.{demands, clauses}
-use Rattle.search.specs.Closure.{open-in, take-clause, round, rounds, marksOf}
+use Rattle.closure.specs.Closure.{open-in, take-clause, round, rounds, marksOf}
 use Rattle.search.specs.Search.{walk, search}
-use Rattle.search.specs.Numbered.{sameCode, place, numberedClauses, tableSearch}
+use Rattle.closure.specs.Numbered.{sameCode, place, numberedClauses}
+use Rattle.search.specs.TableSearch.{tableSearch}
 use Rattle.samples.specs.Samples.{answers, passes, cases}
 
 pub samples-pass : all passes cases ≡ true

@@ -7,7 +7,8 @@ use Rattle.table.specs.Verdict.{verdictNumber}
 use Rattle.table.specs.Table.{Table, tableOf}
 use Rattle.ctl.specs.Tests.{judgeVerdict}
 use Rattle.search.specs.Search.{Outcome, found, none, spent}
-use Rattle.search.specs.Numbered.{sameCode, searchUnder, listOf}
+use Rattle.closure.specs.Numbered.{sameCode}
+use Rattle.search.specs.TableSearch.{searchUnder, listOf}
 
 -- what the search answers, with its choices
 pub data Answer : Type 0 where

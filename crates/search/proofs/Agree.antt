@@ -8,8 +8,8 @@ use lib.ListN.{length, getD}
 use Rattle.ctl.specs.Levels.{tabulate}
 use Rattle.ctl.proofs.Tabulate.{length-tabulate, getD-tabulate}
 use Rattle.circuit.specs.Logic.{Literal}
-use Rattle.search.specs.Closure.{Marks, markAt}
-use Rattle.search.specs.Numbered.{bitOf, bytesOf}
+use Rattle.closure.specs.Closure.{Marks, markAt}
+use Rattle.search.specs.TableSearch.{bitOf, bytesOf}
 
 -- ---- the list of marks
 

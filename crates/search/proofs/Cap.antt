@@ -10,7 +10,7 @@ use lib.Dec.{eqb}
 use lib.ListN.{length}
 use lib.Pow.{pow-pos}
 use Rattle.circuit.specs.Logic.{Literal, pos, neg}
-use Rattle.search.specs.Closure.{Marks, markAt, isKnown, Progress, clash, marked}
+use Rattle.closure.specs.Closure.{Marks, markAt, isKnown, Progress, clash, marked}
 use Rattle.search.specs.Search.{Outcome, found, none, spent, capped, uncapped, walk, search}
 use Rattle.search.specs.Right.{choices}
 use Rattle.search.proofs.Step.{chosen, orElse, walk-known, walk-unknown}

@@ -9,13 +9,13 @@ use Rattle.table.specs.Facts.{Wellformed}
 use Rattle.ctl.specs.Kept.{Repair}
 use Rattle.circuit.specs.Logic.{Literal}
 use Rattle.circuit.specs.Variables.{variableCount}
-use Rattle.search.specs.Closure.{closure}
-use Rattle.search.specs.Numbered.{numberedClauses}
-use Rattle.search.proofs.Given.{Within, Inside, Consistent}
-use Rattle.search.proofs.Computed.{held-forced, clash-fails}
-use Rattle.search.proofs.Grow.{closure-grows, closure-keeps, consistent-more, within-more}
+use Rattle.closure.specs.Closure.{closure}
+use Rattle.closure.specs.Numbered.{numberedClauses}
+use Rattle.closure.proofs.Given.{Within, Inside, Consistent}
+use Rattle.closure.proofs.Computed.{held-forced, clash-fails}
+use Rattle.closure.proofs.Grow.{closure-grows, closure-keeps, consistent-more, within-more}
 use Rattle.search.proofs.Needs.{ClosureIsRight}
-use Rattle.search.proofs.Places.{steps-fit, numbered-inside}
+use Rattle.closure.proofs.Places.{steps-fit, numbered-inside}
 use Rattle.search.proofs.RepairSound.{repair-no-fail, repair-forced}
 use Rattle.search.proofs.SettledRepair.{settled-repair}
 

@@ -8,11 +8,11 @@ use mathlib.Core.List.{List, [], _∷_, List·Memᴰ·head, List·Memᴰ·tail}
 use lib.ListN.{getD}
 use Rattle.ctl.specs.Rank.{RanksBefore, First}
 use Rattle.circuit.specs.Logic.{Literal, pos, neg}
-use Rattle.search.specs.Closure.{Marks, markAt, isKnown, Progress, clash, marked}
+use Rattle.closure.specs.Closure.{Marks, markAt, isKnown, Progress, clash, marked}
 use Rattle.search.specs.Search.{Outcome, found, none, spent, uncapped, choose, walk, search}
 use Rattle.search.proofs.Step.{chosen, orElse, walk-known, walk-unknown}
 use Rattle.search.proofs.InOrder.{upFrom, below-upFrom}
-use Rattle.search.specs.Numbered.{bytesOf}
+use Rattle.search.specs.TableSearch.{bytesOf}
 use Rattle.search.proofs.Agree.{AgreesWith, member-none, member-more, Among}
 use Rattle.search.proofs.Needs.{ClosureIsRight}
 use Rattle.search.proofs.Stand.{Stands, stands-first, stands-next, fine-choice, stands-choice, settled-same, all-settled}

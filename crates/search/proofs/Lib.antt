@@ -1,11 +1,3 @@
-pub mod Forced
-pub mod Marks
-pub mod Given
-pub mod Clause
-pub mod Rounds
-pub mod Rest
-pub mod Computed
-pub mod Grow
 pub mod Step
 pub mod Cap
 pub mod InOrder
@@ -13,8 +5,6 @@ pub mod Agree
 pub mod Needs
 pub mod Stand
 pub mod First
-pub mod Places
-pub mod Models
 pub mod RepairSound
 pub mod SettledRepair
 pub mod ClosureRight

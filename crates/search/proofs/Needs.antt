@@ -5,8 +5,8 @@ use mathlib.Core.Bool.{Bool, true, cond}
 use mathlib.Core.List.{List, [], _∷_}
 use lib.ListN.{length, getD}
 use Rattle.circuit.specs.Logic.{Literal}
-use Rattle.search.specs.Closure.{unknown, known, Marks, markAt, isKnown, Progress, clash, marked}
-use Rattle.search.specs.Numbered.{bytesOf}
+use Rattle.closure.specs.Closure.{unknown, known, Marks, markAt, isKnown, Progress, clash, marked}
+use Rattle.search.specs.TableSearch.{bytesOf}
 use Rattle.search.proofs.Agree.{AgreesAll}
 
 -- `Fine` are the literals that a search of the steps 0 .. e - 1 may choose, one after the other.

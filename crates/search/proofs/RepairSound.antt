@@ -13,12 +13,12 @@ use Rattle.circuit.specs.Logic.{Literal, Makes, Satisfies}
 use Rattle.circuit.specs.Variables.{Var}
 use Rattle.circuit.proofs.Distinct.{step-first}
 use Rattle.circuit.proofs.Models.{repair-is-model}
-use Rattle.search.specs.Closure.{Forced, Fails}
-use Rattle.search.specs.Numbered.{numberedClauses}
-use Rattle.search.proofs.Forced.{forced-sound, fails-no-model}
-use Rattle.search.proofs.Given.{Given, Within}
+use Rattle.closure.specs.Closure.{Forced, Fails}
+use Rattle.closure.specs.Numbered.{numberedClauses}
+use Rattle.closure.proofs.Forced.{forced-sound, fails-no-model}
+use Rattle.closure.proofs.Given.{Given, Within}
 use Rattle.search.proofs.Agree.{AgreesAll}
-use Rattle.search.proofs.Models.{onNumbers, model-numbered}
+use Rattle.closure.proofs.Models.{onNumbers, model-numbered}
 
 -- ---- bits
 

@@ -4,8 +4,9 @@ use Rattle.table.specs.Table.{Table}
 use Rattle.table.specs.Facts.{Wellformed}
 use Rattle.ctl.proofs.Tabulate.{length-tabulate}
 use Rattle.circuit.specs.Variables.{variableCount}
-use Rattle.search.specs.Closure.{closure}
-use Rattle.search.specs.Numbered.{numberedClauses, tableSearch}
+use Rattle.closure.specs.Closure.{closure}
+use Rattle.closure.specs.Numbered.{numberedClauses}
+use Rattle.search.specs.TableSearch.{tableSearch}
 use Rattle.search.specs.Right.{SearchIsRight}
 use Rattle.search.proofs.Cap.{search-unspent, search-cut, search-same, search-few}
 use Rattle.search.proofs.First.{search-none, search-found}

@@ -17,15 +17,16 @@ use Rattle.circuit.proofs.Lists.{each-map}
 use Rattle.circuit.proofs.Covered.{clause-variables}
 use Rattle.circuit.proofs.Settled.{Closed, variables-settled}
 use Rattle.circuit.proofs.Models.{Agrees, model-is-repair}
-use Rattle.search.specs.Closure.{Forced, unit, Mark, Marks, unknown, known, markAt, isKnown, marked, closure}
-use Rattle.search.specs.Numbered.{bitOf, bytesOf, place, numberedLiteral, numberedClauses}
-use Rattle.search.proofs.Forced.{Occurs, settled-models}
-use Rattle.search.proofs.Marks.{Holds, literal-path, holds-once}
-use Rattle.search.proofs.Given.{Given, Within, Consistent}
-use Rattle.search.proofs.Computed.{held-forced, forced-held}
+use Rattle.closure.specs.Closure.{Forced, unit, Mark, Marks, unknown, known, markAt, isKnown, marked, closure}
+use Rattle.closure.specs.Numbered.{place, numberedLiteral, numberedClauses}
+use Rattle.search.specs.TableSearch.{bitOf, bytesOf}
+use Rattle.closure.proofs.Forced.{Occurs, settled-models}
+use Rattle.closure.proofs.Marks.{Holds, literal-path, holds-once}
+use Rattle.closure.proofs.Given.{Given, Within, Consistent}
+use Rattle.closure.proofs.Computed.{held-forced, forced-held}
 use Rattle.search.proofs.Agree.{length-bytesOf, getD-bytesOf}
-use Rattle.search.proofs.Places.{place-step, numbered-inside, numbered-nonempty}
-use Rattle.search.proofs.Models.{onVariables, numbered-model}
+use Rattle.closure.proofs.Places.{place-step, numbered-inside, numbered-nonempty}
+use Rattle.closure.proofs.Models.{onVariables, numbered-model}
 use Rattle.search.proofs.RepairSound.{bit-sign}
 
 -- ---- literals of variables, by their numbers

@@ -8,9 +8,9 @@ use lib.ListN.{length, getD}
 use lib.Seq.{ext-getD}
 use Rattle.ctl.specs.Rank.{First}
 use Rattle.circuit.specs.Logic.{Literal}
-use Rattle.search.specs.Closure.{Mark, unknown, known, Marks, markAt, isKnown, Progress, marked}
+use Rattle.closure.specs.Closure.{Mark, unknown, known, Marks, markAt, isKnown, Progress, marked}
 use Rattle.search.proofs.InOrder.{below-suc}
-use Rattle.search.specs.Numbered.{bitOf, bytesOf}
+use Rattle.search.specs.TableSearch.{bitOf, bytesOf}
 use Rattle.search.proofs.Agree.{length-bytesOf, getD-bytesOf, member-none, member-more, Among}
 use Rattle.search.proofs.Needs.{ClosureIsRight}
 

@@ -4,7 +4,7 @@ use mathlib.Core.Path.{_≡_}
 use mathlib.Core.Bool.{Bool, true, false}
 use mathlib.Core.List.{List, _∷_}
 use Rattle.circuit.specs.Logic.{Literal, pos, neg}
-use Rattle.search.specs.Closure.{Marks, markAt, isKnown, Progress, clash, marked}
+use Rattle.closure.specs.Closure.{Marks, markAt, isKnown, Progress, clash, marked}
 use Rattle.search.specs.Search.{Outcome, found, none, spent, choose, walk}
 
 -- `choose`, given whether it stops, and what the closure of the literals Q is

@@ -1,4 +1,3 @@
-pub mod Closure
 pub mod Search
-pub mod Numbered
+pub mod TableSearch
 pub mod Right

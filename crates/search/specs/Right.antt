@@ -7,9 +7,9 @@ use lib.ListN.{length}
 use Rattle.table.specs.Table.{Table}
 use Rattle.ctl.specs.Kept.{Repair}
 use Rattle.ctl.specs.Rank.{First}
-use Rattle.search.specs.Closure.{Marks}
+use Rattle.closure.specs.Closure.{Marks}
 use Rattle.search.specs.Search.{Outcome, found, none, spent}
-use Rattle.search.specs.Numbered.{searchUnder, searchFree, listOf}
+use Rattle.search.specs.TableSearch.{searchUnder, searchFree, listOf}
 
 -- the choices that an answer carries
 abbrev pub choices : Outcome → ℕ

@@ -4,7 +4,7 @@ use mathlib.Core.Bool.{Bool, true, false}
 use mathlib.Core.List.{List, [], _∷_}
 use lib.Dec.{eqb}
 use Rattle.circuit.specs.Logic.{Literal, pos, neg}
-use Rattle.search.specs.Closure.{Marks, markAt, isKnown, Progress, clash, marked}
+use Rattle.closure.specs.Closure.{Marks, markAt, isKnown, Progress, clash, marked}
 
 -- the answer, with the choices made
 pub data Outcome : Type 0 where

@@ -1,6 +1,6 @@
 -- What every accepted table has, and that a record read from a section is the table's record.
 use Prim.Native.Nat.{ℕ, _*_, _^_, _≤_, _<_}
-use mathlib.Core.Path.{_≡_, sym, subst}
+use mathlib.Core.Path.{_≡_, sym, ap, subst, _∙_}
 use mathlib.Core.Bool.{true}
 use mathlib.Core.List.{List}
 use native.Mathlib.Nat.{zero-add}
@@ -127,4 +127,26 @@ accepted bytes v =
       nodes-count = f;
       short = omega arith;
       table = wellformed (tableOf bytes) (omega arith) (t .2);
+    }
+
+-- a step read from the section of an accepted table: it is the table's, and its ends are below 32
+pub record ReadStep (table : List ℕ) (j : ℕ) (x : Step) : Type 0 where
+  pub here : x ≡ stepAt (tableOf table) j
+  pub from-below : x .from < 32
+  pub to-below : x .to < 32
+
+pub read-step : (table : List ℕ) → tableVerdict table ≡ Accepted → (j : ℕ) → j < length (tableOf table .steps)
+    → (section : List ℕ) → section ≡ stepsPart table → (x : Step) → x ≡ stepOf (drop (stepWidth * j) section) → ReadStep table j x
+read-step table ok j h section s x e =
+    let p = accepted table ok in
+    let T = p .table in
+    let count : j < countsOf table .steps = omega (arith, p .steps-count) in
+    let here : x ≡ stepAt (tableOf table) j = e ∙ ap (λ (l : List ℕ). stepOf (drop (stepWidth * j) l)) s ∙ step-read table j count in
+    let f = T .from-state j h in
+    let t = T .to-state j h in
+    let n = T .few-states in
+    record {
+      here = here;
+      from-below = omega (arith, ap (λ (y : Step). y .from) here, f, n);
+      to-below = omega (arith, ap (λ (y : Step). y .to) here, t, n);
     }

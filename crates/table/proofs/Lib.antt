@@ -5,4 +5,6 @@ pub mod Verdicts
 pub mod Records
 pub mod Scan
 pub mod Rows
+pub mod TargetSets
 pub mod Accepted
+pub mod ReadNode

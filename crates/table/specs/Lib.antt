@@ -3,3 +3,4 @@ pub mod Table
 pub mod Accept
 pub mod Facts
 pub mod Rows
+pub mod StateSets

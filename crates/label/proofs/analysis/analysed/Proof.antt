@@ -13,13 +13,14 @@ use Rattle.table.specs.Verdict.{require}
 use Rattle.table.specs.Table.{tableOf, statesPart, stateAt}
 use Rattle.table.specs.Accept.{tableVerdict}
 use Rattle.table.specs.Rows.{Rows}
+use Rattle.table.specs.StateSets.{initialWord}
 use Rattle.table.proofs.Accepted.{accepted, state-read}
 use Rattle.ctl.specs.Labels.{keptSteps, isKept, marked}
 use Rattle.ctl.specs.Rule.{rootIndex}
 use Rattle.ctl.proofs.Tabulate.{getD-tabulate}
 use Rattle.ctl.specs.Tests.{isTotal}
 use Rattle.sets.specs.Member.{setOf}
-use Rattle.label.specs.Words.{keptWord, totalRows, initialWord, passWords}
+use Rattle.label.specs.Words.{keptWord, totalRows, passWords}
 use Rattle.label.specs.Analysis.{analysisAt, labelWords}
 use Rattle.label.proofs.Next.{KeptRows}
 use Rattle.label.proofs.Kept.{StateBytes, kept-word, total-word, initial-word}

@@ -16,7 +16,7 @@ use Rattle.table.proofs.Accepted.{accepted}
 use Rattle.table.proofs.Records.{records-next, records-done}
 use Rattle.ctl.specs.Rule.{operatorOf}
 use Rattle.label.specs.Words.{nodeWord, passWords}
-use Rattle.label.proofs.ReadNode.{read-node}
+use Rattle.table.proofs.ReadNode.{read-node}
 use Rattle.label.proofs.pass.label_pass.Statement.{statement}
 use Rattle.label.proofs.pass.label_pass.Tie as tie
 

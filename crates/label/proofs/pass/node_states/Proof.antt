@@ -1,32 +1,12 @@
 -- `node_states` meets its contract, kind by kind.
-use Prim.Native.Nat.{ℕ, suc, _≤_, zero-le}
 use mathlib.Core.Path.{_≡_, sym, ap, _∙_}
-use mathlib.Core.Bool.{false}
-use native.Mathlib.Decide.{ℕ-discrete}
-use native.Mathlib.Omega.{arith}
 use lib.Bits.{bitAnd}
-use lib.ListN.{getD, List·getD-eq-default}
 use denote.Ref.{now}
-use Rattle.table.specs.declared.record.Node.{Node}
-use Rattle.ctl.specs.Rule.{constant, operators, operatorOf}
+use Rattle.ctl.proofs.OfKind.{of-kind, no-kind}
 use Rattle.label.specs.Words.{nodeWord}
-use mathlib.Core.Logic.{_⊎_, inl, inr}
 use borrow.Author.Needs.{needs}
 use Rattle.label.proofs.pass.node_states.Statement.{statement}
 use Rattle.label.proofs.pass.node_states.Tie as tie
-
--- the operator of a node of a known kind
-of-kind : (x : Node) (k : ℕ) → x .kind ≡ k → operatorOf x ≡ getD (operators (x .a) (x .b)) k (constant false)
-of-kind x k e = ap (λ (i : ℕ). getD (operators (x .a) (x .b)) i (constant false)) e
-
--- a number from m on that is not m is past it
-past : (m k : ℕ) → m ≤ k → ¬ (k ≡ m) → suc m ≤ k
-past m k h d = omega (arith, d)
-
--- kind 0, and every kind past the last, is the constant false
-other-kind : (x : Node) → (x .kind ≡ 0) ⊎ (10 ≤ x .kind) → operatorOf x ≡ constant false
-other-kind x (inl e) = of-kind x 0 e
-other-kind x (inr h) = List·getD-eq-default (operators (x .a) (x .b)) (constant false) {n = x .kind} h
 
 labelled-states-requires : tie.Need-labelled-states-requires
 labelled-states-requires c κs = search needs
@@ -168,12 +148,7 @@ unfolding nodeWord
 returns-10 c =
     let a = c .before .before .args in
     let r = c .match .rest in
-    let split : (a .x .kind ≡ 0) ⊎ (10 ≤ a .x .kind) =
-    elim (ℕ-discrete (a .x .kind) 0) [
-      | yes e ↦ inl e
-      | no d ↦ inr (past 9 _ (past 8 _ (past 7 _ (past 6 _ (past 5 _ (past 4 _ (past 3 _ (past 2 _ (past 1 _ (past 0 _ zero-le d) (r .0 .0 .0 .0 .0 .0 .0 .0 .1)) (r .0 .0 .0 .0 .0 .0 .0 .1)) (r .0 .0 .0 .0 .0 .0 .1)) (r .0 .0 .0 .0 .0 .1)) (r .0 .0 .0 .0 .1)) (r .0 .0 .0 .1)) (r .0 .0 .1)) (r .0 .1)) (r .1))
-    ] in
-    sym (ap (nodeWord (a .rows) (a .kept) (a .n) (now (a .states)) (a .t2)) (other-kind (a .x) split))
+    sym (ap (nodeWord (a .rows) (a .kept) (a .n) (now (a .states)) (a .t2)) (no-kind (a .x) (r .0 .0 .0 .0 .0 .0 .0 .0 .1) (r .0 .0 .0 .0 .0 .0 .0 .1) (r .0 .0 .0 .0 .0 .0 .1) (r .0 .0 .0 .0 .0 .1) (r .0 .0 .0 .0 .1) (r .0 .0 .0 .1) (r .0 .0 .1) (r .0 .1) (r .1)))
 
 pub node-states-spec : {M : Type 1} → statement M
 node-states-spec =

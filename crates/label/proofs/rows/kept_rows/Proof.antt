@@ -12,9 +12,10 @@ use denote.Ref.{now}
 use Rattle.table.specs.declared.record.Step.{Step}
 use Rattle.table.specs.Table.{tableOf, stepAt}
 use Rattle.table.specs.Rows.{Rows}
+use Rattle.table.proofs.Accepted.{read-step}
 use Rattle.table.proofs.Rows.{rows-none}
 use Rattle.ctl.specs.Labels.{keptSteps}
-use Rattle.label.proofs.KeptSteps.{ifKept, kept-more, read-step, with-kept, with-struck}
+use Rattle.label.proofs.KeptSteps.{ifKept, kept-more, with-kept, with-struck}
 use Rattle.label.proofs.rows.kept_rows.Statement.{statement}
 use Rattle.label.proofs.rows.kept_rows.Tie as tie
 

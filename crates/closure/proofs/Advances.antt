@@ -1,0 +1,117 @@
+-- Rules one after the other: an advance and then another is an advance, and where neither added a bit both speak of the same rows.
+use Prim.Native.Nat.{ℕ, zero, suc, _<_}
+use native.Mathlib.Nat.{not-suc-le-zero, lt-trans}
+use native.Mathlib.Omega.{arith}
+use native.Mathlib.Decide.{decLt}
+use mathlib.Core.Path.{_≡_, refl, sym, subst, _∙_}
+use mathlib.Core.Bool.{Bool, true, false, _||_, false≢true}
+use mathlib.Core.Logic.{⊎-elim}
+use mathlib.Core.List.{List}
+use Rattle.table.specs.Table.{Table}
+use Rattle.table.proofs.Bools.{or-parts, or-neither}
+use Rattle.circuit.specs.Logic.{Literal}
+use Rattle.circuit.specs.Variables.{Var}
+use Rattle.closure.specs.declared.row.Report.{Report}
+use Rattle.closure.specs.Memory.{Memory, Knowledge, knowledge, Sized, bothReports, total}
+use Rattle.closure.specs.Inside.{Inside, Clash}
+use Rattle.closure.specs.Advance.{ForcedBy, Advance}
+use Rattle.closure.specs.Sweep.{Stepped, failing, eachBelow, ordered}
+
+-- a step of the memory advances
+abbrev pub Advances : Table → (Knowledge → Type 0) → Memory → Stepped → Type 0
+Advances T Q M s = Advance T Q M (s .memory) (s .report)
+
+-- both hold of the rows
+abbrev pub Both : (Knowledge → Type 0) → (Knowledge → Type 0) → Knowledge → Type 0
+Both P Q K = P K × Q K
+
+module _ (T : Table) where
+  -- what is so where it is quiet, told another way
+  pub advance-so : {P Q : Knowledge → Type 0} {M N : Memory} {r : Report} → (P (knowledge T M) → Q (knowledge T M))
+      → Advance T P M N r → Advance T Q M N r
+  advance-so f a = record {
+    sized = a .sized;
+    grows-rows = a .grows-rows;
+    grows-words = a .grows-words;
+    same-rows-length = a .same-rows-length;
+    beyond = a .beyond;
+    same-words-length = a .same-words-length;
+    sound = a .sound;
+    clash = a .clash;
+    unchanged = a .unchanged;
+    quiet = λ c e. f (a .quiet c e);
+    more = a .more;
+  }
+
+  pub advance-then : {P Q : Knowledge → Type 0} {M N O : Memory} {r s : Report} → Advance T P M N r → Advance T Q N O s
+      → Advance T (Both P Q) M O (bothReports r s)
+  advance-then {P} {Q} {M} {N} {O} {r} {s} a b = record {
+    sized = b .sized;
+    grows-rows = λ k t e. b .grows-rows k t (a .grows-rows k t e);
+    grows-words = λ k t e. b .grows-words k t (a .grows-words k t e);
+    same-rows-length = b .same-rows-length ∙ a .same-rows-length;
+    beyond = λ k l. b .beyond k l ∙ a .beyond k l;
+    same-words-length = b .same-words-length ∙ a .same-words-length;
+    sound = λ L i. b .sound L (a .sound L i);
+    clash = λ f L i. ⊎-elim (λ e. a .clash e L i) (λ e. b .clash e L (a .sound L i)) (or-parts (r .fails) (s .fails) f);
+    unchanged = λ c. let p = or-neither (r .changed) (s .changed) c in b .unchanged (p .1) ∙ a .unchanged (p .0);
+    quiet = λ c f. let p = or-neither (r .changed) (s .changed) c in let e = or-neither (r .fails) (s .fails) f in
+        (a .quiet (p .0) (e .0), subst (λ (m : Memory). Q (knowledge T m)) (a .unchanged (p .0)) (b .quiet (p .1) (e .1)));
+    more = λ c. grown (r .changed) (s .changed) refl refl c;
+  }
+    where
+      grown : (p q : Bool) → r .changed ≡ p → s .changed ≡ q → p || q ≡ true → total M < total O
+      grown true true e f c = lt-trans (a .more e) (b .more f)
+      grown true false e f c = subst (λ (m : Memory). total M < total m) (sym (b .unchanged f)) (a .more e)
+      grown false true e f c = subst (λ (m : Memory). total m < total O) (a .unchanged e) (b .more f)
+      grown false false e f c = absurd (false≢true c)
+
+  -- nothing is done, and it fails only where the set has a variable both ways
+  pub advance-failing : (f : Bool) (M : Memory) → Sized T M
+      → (f ≡ true → (P : List (Literal Var)) → Inside T (ForcedBy T P) (knowledge T M) → Clash T (ForcedBy T P))
+      → Advances T (λ K. f ≡ false) M (failing f M)
+  advance-failing f M sized clash = record {
+    sized = sized;
+    grows-rows = λ k t e. e;
+    grows-words = λ k t e. e;
+    same-rows-length = refl;
+    beyond = λ k l. refl;
+    same-words-length = refl;
+    sound = λ L i. i;
+    clash = clash;
+    unchanged = λ c. refl;
+    quiet = λ c e. e;
+    more = λ c. absurd (false≢true c);
+  }
+
+  -- a step for each number below n
+  pub advance-each : (f : ℕ → Memory → Stepped) (Q : ℕ → Knowledge → Type 0) (n : ℕ)
+      → ((k : ℕ) → k < n → (M : Memory) → Sized T M → Advances T (Q k) M (f k M))
+      → (M : Memory) → Sized T M → Advances T (λ K. (k : ℕ) → k < n → Q k K) M (eachBelow f n M)
+  unfolding eachBelow
+  advance-each f Q zero step M sized = advance-so (λ e k l. absurd (not-suc-le-zero l)) (advance-failing false M sized (λ e. absurd (false≢true e)))
+  advance-each f Q (suc n) step M sized =
+      let before = advance-each f Q n (λ k l. step k (omega arith)) M sized in
+      advance-so (λ q k l. all q k l (decLt k n)) (advance-then before (step n (omega arith) (eachBelow f n M .memory) (before .sized)))
+    where
+      all : {K : Knowledge} → ((k : ℕ) → k < n → Q k K) × Q n K → (k : ℕ) → k < suc n → Dec (k < n) → Q k K
+      all q k l (yes h) = q .0 k h
+      all {K} q k l (no h) = let e : n ≡ k = omega (arith, h) in subst (λ (j : ℕ). Q j K) e (q .1)
+
+-- ---- upward or downward
+
+ordered-below : (down : Bool) (n k : ℕ) → k < n → ordered down n k < n
+ordered-below true n k l = omega arith
+ordered-below false n k l = l
+
+ordered-twice : (down : Bool) (n k : ℕ) → k < n → ordered down n (ordered down n k) ≡ k
+ordered-twice true n k l = omega arith
+ordered-twice false n k l = refl
+
+-- either way each number has its turn
+pub advance-ordered : (T : Table) (down : Bool) (f : ℕ → Memory → Stepped) (Q : ℕ → Knowledge → Type 0) (n : ℕ)
+    → ((k : ℕ) → k < n → (M : Memory) → Sized T M → Advances T (Q k) M (f k M))
+    → (M : Memory) → Sized T M → Advances T (λ K. (k : ℕ) → k < n → Q k K) M (eachBelow (λ k. f (ordered down n k)) n M)
+advance-ordered T down f Q n step M sized = advance-so T
+    (λ q k l. subst (λ (j : ℕ). Q j (knowledge T M)) (ordered-twice down n k l) (q (ordered down n k) (ordered-below down n k l)))
+    (advance-each T (λ k. f (ordered down n k)) (λ k. Q (ordered down n k)) n (λ k l. step (ordered down n k) (ordered-below down n k l)) M sized)

@@ -1,0 +1,40 @@
+-- Calls one after the other, as the model has them: what one call does to the memory as the call before it left it.
+use Prim.Native.Nat.{ℕ}
+use mathlib.Core.Path.{_≡_, ap, _∙_}
+use mathlib.Core.List.{List}
+use lib.ListN.{length}
+use Rattle.closure.specs.declared.row.Row.{Row}
+use Rattle.closure.specs.declared.row.Report.{Report}
+use Rattle.closure.specs.declared.level.Fixpoint.{Fixpoint}
+use Rattle.closure.specs.Memory.{Memory, joined, reportOf, bothReports}
+use Rattle.closure.specs.Setting.{Fits}
+use Rattle.closure.specs.Sweep.{Stepped, memory, stepped, addRow, _andThen_}
+
+-- a row added to the rows
+pub added : (rows : List ℕ) (at : ℕ) {x y : Row} {rows′ : List ℕ} {r : Report}
+    → x ≡ y → (r ≡ reportOf rows at x) × (rows′ ≡ joined rows at x) → (w : List ℕ) → stepped rows′ w r ≡ addRow at y (memory rows w)
+added rows at e did w = (λ i. stepped (did .1 i) w (did .0 i)) ∙ ap (λ (z : Row). addRow at z (memory rows w)) e
+
+-- a call after others, with both reports
+pub after : {rows words rows′ words′ : List ℕ} {p q r : Report} {S : Stepped} (f : Memory → Stepped)
+    → stepped rows words p ≡ S → stepped rows′ words′ q ≡ f (memory rows words) → r ≡ bothReports p q → stepped rows′ words′ r ≡ (S andThen f)
+after {rows} {words} {rows′} {words′} {p} f before here e =
+    ap (λ (z : Report). stepped rows′ words′ z) e
+    ∙ ap (λ (T : Stepped). record { memory = T .memory; report = bothReports p (T .report) }) here
+    ∙ ap (λ (T : Stepped). T andThen f) before
+
+-- a row added after others
+pub after-add : {rows words rows′ : List ℕ} {p q r : Report} {S : Stepped} {x y : Row} (at : ℕ)
+    → stepped rows words p ≡ S → x ≡ y → (q ≡ reportOf rows at x) × (rows′ ≡ joined rows at x) → r ≡ bothReports p q → stepped rows′ words r ≡ (S andThen addRow at y)
+after-add {rows} {words} {y = y} at before e did both = after (addRow at y) before (added rows at e did words) both
+
+-- what fits the memory fits one of the same size
+pub fits-on : {n : ℕ} {x : Fixpoint} (rows words rows′ words′ : List ℕ) → Fits n x rows words → length rows′ ≡ length rows → length words′ ≡ length words
+    → Fits n x rows′ words′
+fits-on rows words rows′ words′ fits r w = record {
+  rows-size = r ∙ fits .rows-size;
+  node-below = fits .node-below;
+  a-below = fits .a-below;
+  b-below = fits .b-below;
+  levels-below = rw w (fits .levels-below);
+}

@@ -1,0 +1,28 @@
+-- A row that knows something both ways: its variable is in the set both ways.
+use Prim.Native.Nat.{ℕ}
+use mathlib.Core.Path.{_≡_, sym, subst}
+use mathlib.Core.Bool.{true, false}
+use mathlib.Core.List.{List·Memᴰ}
+use Rattle.table.specs.Table.{Table}
+use Rattle.table.specs.Facts.{Wellformed}
+use Rattle.circuit.specs.Logic.{Literal}
+use Rattle.circuit.specs.Variables.{Var, step}
+use Rattle.circuit.specs.Clauses.{Clause, clauses}
+use Rattle.closure.specs.declared.row.Row.{Row}
+use Rattle.closure.specs.Row.{known, clashes}
+use Rattle.closure.specs.Memory.{SmallRow}
+use Rattle.closure.specs.Inside.{RowIn, StepsIn, Clash}
+use Rattle.closure.proofs.RowLaws.{clash-state}
+use Rattle.closure.proofs.Forced.{Closed}
+use Rattle.closure.proofs.SetsIn.{step-known}
+
+module _ (T : Table) (wf : Wellformed T) (S : Literal Var → Type 0) (closed : (C : Clause) → List·Memᴰ C (clauses T) → Closed S C) where
+  pub clash-in : (v : ℕ → Var) (r : Row) → SmallRow r → RowIn T S v r → clashes r ≡ true → Clash T S
+  clash-in v r small p e = let c = clash-state r small e in (v (c .0), p true (c .0) (c .1) .1, p false (c .0) (c .2) .1)
+
+  -- of steps: two with the same ends are one step
+  pub clash-steps-in : (s : ℕ) (r : Row) → SmallRow r → StepsIn T S s r → clashes r ≡ true → Clash T S
+  clash-steps-in s r small p e =
+      let c = clash-state r small e in
+      let k = p true (c .0) (c .1) in
+      (step (k .0), k .4, step-known T S wf s r p (k .0) (k .1) (k .2) false (subst (λ (t : ℕ). known r false t ≡ true) (sym (k .3)) (c .2)))

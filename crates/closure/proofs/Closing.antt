@@ -1,0 +1,131 @@
+-- From sweeps to the closure: what the rows reached so far have, and what a last sweep makes of it.
+use Prim.Native.Nat.{ℕ, suc, _+_, _*_, _-_, _^_, _≤_, _<_}
+use native.Mathlib.Omega.{arith}
+use mathlib.Core.Path.{_≡_, refl, sym, ap, subst, _∙_}
+use mathlib.Core.Bool.{Bool, true, false, cond, false≢true, true≢false}
+use mathlib.Core.List.{List, [], _∷_, List·Memᴰ}
+use lib.Dec.{eqb}
+use lib.ListN.{length, getD}
+use Rattle.table.specs.Table.{Table, stepAt, nodeAt}
+use Rattle.table.specs.Facts.{Wellformed}
+use Rattle.circuit.specs.Logic.{Literal}
+use Rattle.circuit.specs.Variables.{Var, step}
+use Rattle.circuit.specs.Clauses.{clauses}
+use Rattle.closure.specs.declared.row.Row.{Row}
+use Rattle.closure.specs.declared.row.Report.{Report}
+use Rattle.closure.specs.Closure.{Fails}
+use Rattle.closure.specs.Row.{known}
+use Rattle.closure.specs.Memory.{Memory, Knowledge, knowledge, rowAt, SmallRow, Small, Sized, levelTotal, levelBase, levelRow, nodePlace, stepPlace, sum, total}
+use Rattle.closure.specs.Rest.{Rest}
+use Rattle.closure.specs.Inside.{literal, Inside}
+use Rattle.closure.specs.Advance.{ForcedBy, Grows, Advance}
+use Rattle.closure.specs.Closes.{stepKnown, Between, Closes, Closed}
+use Rattle.closure.proofs.RowLaws.{same-ends}
+use Rattle.closure.proofs.RestForced.{rest-forced}
+
+-- ---- sizes
+
+sum-bound : (xs : List ℕ) → ((k : ℕ) → getD xs k 0 < 2 ^ 32) → sum xs ≤ length xs * 2 ^ 32
+unfolding sum
+sum-bound [] small = omega arith
+sum-bound (x ∷ xs) small = omega (arith, small 0, sum-bound xs (λ k. small (suc k)))
+
+-- the sum of all words of a sized memory
+pub total-bound : {T : Table} (M : Memory) → Sized T M → total M ≤ (length (M .rows) + length (M .words)) * 2 ^ 32
+total-bound M z = omega (arith, sum-bound (M .rows) (z .small-rows), sum-bound (M .words) (z .small-words))
+
+small-row : {T : Table} {M : Memory} → Sized T M → (b : Bool) (k : ℕ) → SmallRow (rowAt (cond b (M .rows) (M .words)) k)
+small-row z true k = (z .small-rows k, z .small-rows (k + 1))
+small-row z false k = (z .small-words k, z .small-words (k + 1))
+
+pub small-knowledge : {T : Table} {M : Memory} → Sized T M → Small (knowledge T M)
+small-knowledge {T} {M} z = record {
+  steps = λ s. small-row z true (stepPlace s);
+  kept = small-row z true 128;
+  nodes = λ i. small-row z true (nodePlace i);
+  levels = λ i m. pick (eqb m 0) (eqb m (length (T .states))) i m;
+}
+  where
+    pick : (x y : Bool) (i m : ℕ) → SmallRow (cond x (rowAt (M .rows) (nodePlace (nodeAt T i .b))) (cond y (rowAt (M .rows) (nodePlace i)) (rowAt (M .words) (levelBase T i + 2 * (m - 1)))))
+    pick true y i m = small-row z true _
+    pick false true i m = small-row z true _
+    pick false false i m = small-row z false _
+
+-- ---- what has been reached
+
+module _ (T : Table) where
+  -- from M₀ on, all bits stay, the words past the levels stay, and what is added is forced
+  pub record Reached (M₀ M : Memory) : Type 0 where
+    pub sized : Sized T M
+    pub grows : Grows (M₀ .rows) (M .rows)
+    pub same-words-length : length (M .words) ≡ length (M₀ .words)
+    pub beyond : (k : ℕ) → levelTotal T ≤ k → getD (M .words) k 0 ≡ getD (M₀ .words) k 0
+    pub sound : (P : List (Literal Var)) → Inside T (ForcedBy T P) (knowledge T M₀) → Inside T (ForcedBy T P) (knowledge T M)
+
+  pub reached-first : (M : Memory) → Sized T M → Reached M M
+  reached-first M z = record { sized = z; grows = λ k s e. e; same-words-length = refl; beyond = λ k h. refl; sound = λ P i. i }
+
+  pub reached-more : {Q : Knowledge → Type 0} {M₀ M M′ : Memory} {r : Report} → Reached M₀ M → Advance T Q M M′ r → Reached M₀ M′
+  reached-more reached more = record {
+    sized = more .sized;
+    grows = λ k s e. more .grows-rows k s (reached .grows k s e);
+    same-words-length = more .same-words-length ∙ reached .same-words-length;
+    beyond = λ k h. more .beyond k h ∙ reached .beyond k h;
+    sound = λ P i. more .sound P (reached .sound P i);
+  }
+
+  known-grows : (rows rows′ : List ℕ) → Grows rows rows′ → (sign : Bool) (j : ℕ) → stepKnown T rows sign j ≡ true → stepKnown T rows′ sign j ≡ true
+  known-grows rows rows′ g true j = g _ _
+  known-grows rows rows′ g false j = g _ _
+
+  -- the rows still lie between P and its closure
+  between-still : {M₀ M : Memory} → Reached M₀ M → (P : List (Literal Var)) → Between T P M₀ → Between T P M
+  between-still {M₀} {M} reached P b = record {
+    of-steps = b .of-steps;
+    above = λ j sign i. known-grows (M₀ .rows) (M .rows) (reached .grows) sign j (b .above j sign i);
+    below = reached .sound P (b .below);
+  }
+
+  closed-with : {M₀ M : Memory} (fails : Bool) → Reached M₀ M → ((P : List (Literal Var)) → Between T P M₀ → Closes T P fails M) → Closed T fails M₀ M
+  closed-with fails reached closes = record {
+    sized = reached .sized;
+    same-words-length = reached .same-words-length;
+    beyond = reached .beyond;
+    closes = closes;
+  }
+
+  -- a sweep that fails: something is forced both ways
+  pub closed-failing : {Q : Knowledge → Type 0} {M₀ M M′ : Memory} {r : Report} → Reached M₀ M → Advance T Q M M′ r → r .fails ≡ true → Closed T true M₀ M′
+  closed-failing reached more f = closed-with true (reached-more reached more) (λ P b.
+      let x = more .clash f P (reached .sound P (b .below)) in
+      record {
+        fails-exact = (λ _. (literal true (x .0), x .1, x .2), λ _. refl);
+        between = between-still (reached-more reached more) P b;
+        exact = λ e. absurd (true≢false e);
+      })
+
+  -- a sweep that adds nothing and does not fail: the rows are at rest
+  module _ (wf : Wellformed T) where
+    known-forced : (M : Memory) (P : List (Literal Var)) → Inside T (ForcedBy T P) (knowledge T M) → (j : ℕ) (sign : Bool) → j < length (T .steps)
+        → stepKnown T (M .rows) sign j ≡ true → ForcedBy T P (literal sign (step j))
+    known-forced M P inside j sign h e =
+        let x = inside .steps (stepAt T j .from) (wf .from-state j h) sign (stepAt T j .to) e in
+        subst (λ (k : ℕ). ForcedBy T P (literal sign (step k))) (same-ends T wf (x .0) j (x .1) h (x .2) (x .3)) (x .4)
+
+    rest-closes : (M : Memory) → Sized T M → Rest T (knowledge T M) → (P : List (Literal Var)) → Between T P M → Closes T P false M
+    rest-closes M z rest P b =
+        let all = rest-forced T wf (knowledge T M) (small-knowledge z) rest P
+        (λ l i. let x = b .of-steps l i in (x .0, x .1, x .2, held l i (x .0) (x .2))) in
+        record {
+          fails-exact = (λ e. absurd (false≢true e), λ f. absurd (all .0 f));
+          between = b;
+          exact = λ e j sign h. (known-forced M P (b .below) j sign h, all .1 j sign h);
+        }
+      where
+        held : (l : Literal Var) → List·Memᴰ l P → (j : ℕ) → l .var ≡ step j → stepKnown T (M .rows) (l .sign) j ≡ true
+        held l i j e = b .above j (l .sign) (subst (λ (k : Literal Var). List·Memᴰ k P) (λ t. record { sign = l .sign; var = e t }) i)
+
+    pub closed-resting : {M₀ M M′ : Memory} {r : Report} → Reached M₀ M → Advance T (Rest T) M M′ r → r .fails ≡ false → r .changed ≡ false
+        → Closed T false M₀ M′
+    closed-resting {M₀} {M} {M′} reached more f c = subst (Closed T false M₀) (sym (more .unchanged c))
+        (closed-with false reached (λ P b. rest-closes M (reached .sized) (more .quiet c f) P (between-still reached P b)))

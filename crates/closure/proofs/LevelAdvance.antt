@@ -1,0 +1,183 @@
+-- The rule of a level of a fixed-point node advances the memory, and where it added nothing it is at rest. So do the rules of all of its levels,
+-- upward or downward.
+use Prim.Native.Nat.{ℕ, suc, _<_}
+use native.Mathlib.Omega.{arith}
+use mathlib.Core.Path.{_≡_, sym, ap, subst, _∙_}
+use mathlib.Core.Bool.{Bool, true, false}
+use mathlib.Core.List.{List}
+use lib.ListN.{length, getD}
+use Rattle.table.specs.Table.{Table, nodeAt}
+use Rattle.table.specs.Facts.{Wellformed}
+use Rattle.table.specs.Rows.{targetSet}
+use Rattle.table.proofs.Bools.{or-neither}
+use Rattle.ctl.specs.Rule.{Quantifier, release, operatorOf}
+use Rattle.circuit.specs.Logic.{Literal}
+use Rattle.circuit.specs.Variables.{Var, ahead, level, value}
+use Rattle.closure.specs.declared.row.Row.{Row}
+use Rattle.closure.specs.declared.join.Joined.{Joined}
+use Rattle.closure.specs.declared.level.Fixpoint.{Fixpoint}
+use Rattle.closure.specs.Row.{ClearAt, clashes}
+use Rattle.closure.specs.Rules.{isEvery, eitherRow, joinRelease}
+use Rattle.closure.specs.Memory.{Memory, knowledge, SmallRow, Sized, stepPlace, nodePlace, levelBase}
+use Rattle.closure.specs.Rest.{RestLevel}
+use Rattle.closure.specs.Inside.{RowIn, Clash}
+use Rattle.closure.specs.Advance.{ForcedBy}
+use Rattle.closure.specs.Sweep.{nodeRow, addLevel, levelWith, levelStep, levelsFrom}
+use Rattle.closure.proofs.RowLaws.{clear-row}
+use Rattle.closure.proofs.RulesSmall.{either-small, join-level-small, join-a-small, join-b-small, join-ahead-small}
+use Rattle.closure.proofs.AheadSound.{aheadOver}
+use Rattle.closure.proofs.AheadOf.{level-ahead-in, level-back-steps-in, level-back-end-in}
+use Rattle.closure.proofs.JoinSound.{join-level-in, join-a-in, join-b-in, join-ahead-in, join-clash}
+use Rattle.closure.proofs.InsideLess.{advance-less}
+use Rattle.closure.proofs.Advances.{Advances, advance-so, advance-then, advance-failing, advance-ordered}
+use Rattle.closure.proofs.AddAdvance.{rows-small, levels-small}
+use Rattle.closure.proofs.AddPlaces.{Given, closed, advance-node}
+use Rattle.closure.proofs.AddLevel.{fixpoint, advance-level}
+use Rattle.closure.proofs.BackAdvance.{go-back-advance}
+use Rattle.closure.proofs.NextAdvance.{stepRows, ahead-ends, over-small}
+use Rattle.closure.proofs.InsideParts.{release-b, release-below}
+
+module _ (T : Table) (wf : Wellformed T) (targets : List ℕ) (ends : (s : ℕ) → s < 32 → getD targets s 0 ≡ targetSet (T .steps) s)
+    (i : ℕ) (h : i < length (T .nodes)) (q : Quantifier) (a : ℕ) (m : ℕ) (few : m < length (T .states)) where
+  -- with the second child as the node's record has it
+  module _ (op : operatorOf (nodeAt T i) ≡ release q a (nodeAt T i .b)) (M : Memory) (sized : Sized T M) where
+    abbrev b : ℕ
+    b = nodeAt T i .b
+
+    below : (a < length (T .nodes)) × (b < length (T .nodes))
+    below = let r = release-below T wf i q a b h op in (omega arith, omega arith)
+
+    -- what is known of the level, of the one under it, of the children and of N
+    abbrev above : Row
+    above = knowledge T M .levels i (suc m)
+
+    abbrev under : Row
+    under = knowledge T M .levels i m
+
+    abbrev x : Row
+    x = nodeRow M a
+
+    abbrev y : Row
+    y = nodeRow M b
+
+    abbrev N : Row
+    N = aheadOver T q (stepRows M) under
+
+    abbrev J : Joined
+    J = joinRelease above x y N
+
+    -- ---- they are of machine words
+
+    above-small : SmallRow above
+    above-small = levels-small T M sized i b (suc m)
+
+    under-small : SmallRow under
+    under-small = levels-small T M sized i b m
+
+    x-small : SmallRow x
+    x-small = rows-small T M sized (nodePlace a)
+
+    y-small : SmallRow y
+    y-small = rows-small T M sized (nodePlace b)
+
+    N-small : SmallRow N
+    N-small = over-small T wf targets ends q under M
+
+    -- where it does not fail, G and N are known one way
+    fails-not : J .fails ≡ false → (s : ℕ) → ClearAt s (eitherRow above x y N) × ClearAt s (J .ahead)
+    fails-not e s =
+        let p = or-neither (clashes (eitherRow above x y N)) (clashes (J .ahead)) e in (
+          clear-row (eitherRow above x y N) (either-small above x y N above-small x-small y-small N-small) (p .0) s,
+          clear-row (J .ahead) (join-ahead-small above x y N above-small x-small y-small N-small) (p .1) s,
+        )
+
+    -- ---- they are forced, and so is what they add to each other
+
+    under-in : Given T M (λ S. RowIn T S (level i m) under)
+    under-in P inside = inside .levels i q a b m h op (omega arith)
+
+    N-in : Given T M (λ S. RowIn T S (ahead i (suc m)) N)
+    N-in P inside = level-ahead-in T wf (ForcedBy T P) (closed T P) i h q a b op m few (stepRows M) (λ s. rows-small T M sized (stepPlace s))
+        under under-small (inside .steps) (under-in P inside)
+
+    -- a rule that takes what is in of the level, of the children and of N
+    by-rows : (X : (Literal Var → Type 0) → Type 0)
+        → ((P : List (Literal Var)) → RowIn T (ForcedBy T P) (level i (suc m)) above → RowIn T (ForcedBy T P) (value T a) x → RowIn T (ForcedBy T P) (value T b) y
+        → RowIn T (ForcedBy T P) (ahead i (suc m)) N → X (ForcedBy T P)) → Given T M X
+    by-rows X rule P inside = rule P (inside .levels i q a b (suc m) h op few) (inside .nodes a (below .0)) (inside .nodes b (below .1)) (N-in P inside)
+
+    level-in : Given T M (λ S. RowIn T S (level i (suc m)) (J .level))
+    level-in = by-rows (λ S. RowIn T S (level i (suc m)) (J .level)) (λ P. join-level-in T wf (ForcedBy T P) (closed T P) i h q a b op m few above x y N)
+
+    a-in : Given T M (λ S. RowIn T S (value T a) (J .a))
+    a-in = by-rows (λ S. RowIn T S (value T a) (J .a)) (λ P. join-a-in T wf (ForcedBy T P) (closed T P) i h q a b op m few above x y N)
+
+    b-in : Given T M (λ S. RowIn T S (value T b) (J .b))
+    b-in = by-rows (λ S. RowIn T S (value T b) (J .b)) (λ P. join-b-in T wf (ForcedBy T P) (closed T P) i h q a b op m few above x y N)
+
+    ahead-in : Given T M (λ S. RowIn T S (ahead i (suc m)) (J .ahead))
+    ahead-in = by-rows (λ S. RowIn T S (ahead i (suc m)) (J .ahead)) (λ P. join-ahead-in T wf (ForcedBy T P) (closed T P) i h q a b op m few above x y N)
+
+    clash : J .fails ≡ true → Given T M (Clash T)
+    clash e = by-rows (Clash T) (λ P l x-in y-in n. join-clash T wf (ForcedBy T P) (closed T P) i h q a b op m few above x y N l x-in y-in n
+        above-small x-small y-small N-small e)
+
+    -- ---- the rule
+
+    abbrev fix : Fixpoint
+    fix = fixpoint T i (isEvery q) a b
+
+    level-at : Advances T (λ K. (s : ℕ) → s < length (T .states) → RestLevel T K q i a b m s) M (levelWith targets (length (T .states)) fix m under J M)
+    level-at =
+        let fail = advance-failing T (J .fails) M sized clash in
+        let up = advance-level T wf M sized (J .level) (join-level-small above x y N above-small x-small y-small N-small) i q a b h op (isEvery q) (suc m) few level-in in
+        let two = advance-then T fail up in
+        let left = advance-node T wf _ (two .sized) (J .a) (join-a-small above x y N above-small x-small y-small N-small) a (below .0)
+        (λ P inside. a-in P (advance-less two (ForcedBy T P) inside)) in
+        let three = advance-then T two left in
+        let right = advance-node T wf _ (three .sized) (J .b) (join-b-small above x y N above-small x-small y-small N-small) b (below .1)
+        (λ P inside. b-in P (advance-less three (ForcedBy T P) inside)) in
+        let four = advance-then T three right in
+        let back = go-back-advance T wf targets ends q (J .ahead) under under-small _ (four .sized)
+        (λ P inside s l z k steps. let old = advance-less four (ForcedBy T P) inside in
+        level-back-steps-in T wf (ForcedBy T P) (closed T P) i h q a b op m few s l z under (J .ahead) k under-small steps (under-in P old) (ahead-in P old))
+        (level i m)
+        (λ P inside s l z k steps. let old = advance-less four (ForcedBy T P) inside in
+        level-back-end-in T wf (ForcedBy T P) (closed T P) i h q a b op m few s l z under (J .ahead) k under-small steps (under-in P old) (ahead-in P old))
+        (λ K. K .levels i m) (addLevel (length (T .states)) fix m)
+        (λ z k O sized-O given. advance-so T (λ w. w .0) (advance-level T wf O sized-O z k i q a b h op (isEvery q) m (omega arith) given)) in
+        advance-so T (λ z s l. record {
+          either-clear = fails-not (z .0 .0 .0 .0) s .0;
+          ahead-clear = fails-not (z .0 .0 .0 .0) s .1;
+          level = z .0 .0 .0 .1 .0 s;
+          left = z .0 .0 .1 .0 s;
+          right = z .0 .1 .0 s;
+          back = record { steps = z .1 s l .0; ends = z .1 s l .1 };
+          clear = z .0 .0 .0 .1 .1 s;
+        }) (advance-then T four back)
+
+    level-with : Advances T (λ K. (s : ℕ) → s < length (T .states) → RestLevel T K q i a b m s) M
+        (levelStep targets (length (T .states)) fix m M)
+    unfolding levelStep
+    level-with = subst (λ (r : Row). Advances T (λ K. (s : ℕ) → s < length (T .states) → RestLevel T K q i a b m s) M
+        (levelWith targets (length (T .states)) fix m under (joinRelease above x y r) M)) (ahead-ends T wf targets ends q under M) level-at
+
+-- the levels of a fixed-point node, whose words begin at `base`
+pub levels-advance : (T : Table) (wf : Wellformed T) (targets : List ℕ) → ((s : ℕ) → s < 32 → getD targets s 0 ≡ targetSet (T .steps) s)
+    → (i : ℕ) → i < length (T .nodes) → (q : Quantifier) (a b : ℕ) → operatorOf (nodeAt T i) ≡ release q a b
+    → (base : ℕ) → base ≡ levelBase T i → (down : Bool) (M : Memory) → Sized T M
+    → Advances T (λ K. (m : ℕ) → m < length (T .states) → (s : ℕ) → s < length (T .states) → RestLevel T K q i a b m s) M
+    (levelsFrom targets (length (T .states)) (record { node = i; a = a; b = b; every = isEvery q; base = base }) down (length (T .states)) M)
+levels-advance T wf targets ends i h q a b op base e down M sized =
+    advance-ordered T down (levelStep targets (length (T .states)) (record { node = i; a = a; b = b; every = isEvery q; base = base }))
+    (λ m K. (s : ℕ) → s < length (T .states) → RestLevel T K q i a b m s) (length (T .states)) one M sized
+  where
+    one : (m : ℕ) → m < length (T .states) → (N : Memory) → Sized T N → Advances T (λ K. (s : ℕ) → s < length (T .states) → RestLevel T K q i a b m s) N
+        (levelStep targets (length (T .states)) (record { node = i; a = a; b = b; every = isEvery q; base = base }) m N)
+    one m l N sized-N =
+        let same = release-b (nodeAt T i) q a b op in
+        subst (λ (k : ℕ). Advances T (λ K. (s : ℕ) → s < length (T .states) → RestLevel T K q i a b m s) N
+        (levelStep targets (length (T .states)) (record { node = i; a = a; b = b; every = isEvery q; base = k }) m N)) (sym e)
+        (subst (λ (c : ℕ). Advances T (λ K. (s : ℕ) → s < length (T .states) → RestLevel T K q i a c m s) N
+        (levelStep targets (length (T .states)) (fixpoint T i (isEvery q) a c) m N)) same
+        (level-with T wf targets ends i h q a m l (op ∙ ap (release q a) (sym same)) N sized-N))

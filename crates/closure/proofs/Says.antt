@@ -1,0 +1,154 @@
+-- What the rows say of each variable of the circuit: a row and a place in it. Step gates, N and G have no row of their own: theirs is worked
+-- out from the rows beside them.
+use Prim.Native.Nat.{ℕ, pred}
+use mathlib.Core.Path.{_≡_, sym, ap₂, _∙_}
+use mathlib.Core.Bool.{Bool, true, false, not, cond}
+use mathlib.Core.List.{[], _∷_}
+use lib.Bits.{bitAnd, bitOr}
+use Rattle.table.specs.Table.{Table, stepAt, nodeAt}
+use Rattle.table.specs.Rows.{targetSet}
+use Rattle.ctl.specs.Rule.{Quantifier, Operator, constant, atom, negation, conjunction, disjunction, next, release, operatorOf}
+use Rattle.circuit.specs.Logic.{Literal, opposite}
+use Rattle.circuit.specs.Variables.{Var, step, kept, node, edge, ahead, either, level}
+use Rattle.closure.specs.declared.row.Row.{Row}
+use Rattle.closure.specs.Row.{known, turned, WithinAt}
+use Rattle.closure.specs.Rules.{isEvery, row, eitherRow, joinRelease}
+use Rattle.closure.specs.Memory.{Knowledge}
+use Rattle.closure.specs.Rest.{aheadOf}
+use Rattle.closure.proofs.RowMore.{turned-known, turned-opposite}
+use Rattle.closure.proofs.AndClosed.{AndRules, one-rules, two-rules}
+
+-- the place of a variable in its row: the end of a step, or a state
+unfoldable pub placeOf : Table → Var → ℕ
+placeOf T (step j) = stepAt T j .to
+placeOf T (kept s) = s
+placeOf T (node i s) = s
+placeOf T (edge i m j) = stepAt T j .to
+placeOf T (ahead i m s) = s
+placeOf T (either i m s) = s
+placeOf T (level i m s) = s
+
+-- ---- rows that are not stored
+
+-- The gates of the steps out of a state, by their ends: true where the step is struck, where its end is true, or where N of the state is;
+-- false where the step is kept and its end is false.
+abbrev pub edgeRow : ℕ → Row → Row → Bool → Row
+edgeRow target out end t = row (bitOr (bitOr (out .no) (end .yes)) (cond t target 0)) (bitAnd (out .yes) (end .no))
+
+abbrev pub nothing : Row
+nothing = row 0 0
+
+-- at state s the row g is the AND of x and y, as far as they are known
+pub record AndRow (g x y : Row) (s : ℕ) : Type 0 where
+  pub up : known x true s ≡ true → known y true s ≡ true → known g true s ≡ true
+  pub left : known g true s ≡ true → known x true s ≡ true
+  pub right : known g true s ≡ true → known y true s ≡ true
+  pub no-left : known x false s ≡ true → known g false s ≡ true
+  pub no-right : known y false s ≡ true → known g false s ≡ true
+  pub last-left : known g false s ≡ true → known y true s ≡ true → known x false s ≡ true
+  pub last-right : known g false s ≡ true → known x true s ≡ true → known y false s ≡ true
+
+module _ (T : Table) (K : Knowledge) where
+  -- for A or for E, where N and the ends are known so
+  abbrev pub edgesOver : Quantifier → Row → Row → ℕ → Row
+  edgesOver q over end s = turned (isEvery q)
+      (edgeRow (targetSet (T .steps) s) (K .steps s) (turned (isEvery q) end) (known (turned (isEvery q) over) true s))
+
+  -- N of level m of a release node
+  abbrev pub aheadLevel : Quantifier → ℕ → ℕ → ℕ → ℕ → Row
+  aheadLevel q i a b m = joinRelease (K .levels i m) (K .nodes a) (K .nodes b) (aheadOf T K q (K .levels i (pred m))) .ahead
+
+  -- and G
+  abbrev pub eitherLevel : Quantifier → ℕ → ℕ → ℕ → ℕ → Row
+  eitherLevel q i a b m = eitherRow (K .levels i m) (K .nodes a) (K .nodes b) (aheadOf T K q (K .levels i (pred m)))
+
+  -- the step gates of node i, whose operator is given, at level m out of state s
+  unfoldable pub edgesAt : Operator → ℕ → ℕ → ℕ → Row
+  edgesAt (constant b) i m s = nothing
+  edgesAt (atom p) i m s = nothing
+  edgesAt (negation a) i m s = nothing
+  edgesAt (conjunction a b) i m s = nothing
+  edgesAt (disjunction a b) i m s = nothing
+  edgesAt (next q a) i m s = edgesOver q (K .nodes i) (K .nodes a) s
+  edgesAt (release q a b) i m s = edgesOver q (aheadLevel q i a b m) (K .levels i (pred m)) s
+
+  -- its N
+  unfoldable pub aheadAt : Operator → ℕ → ℕ → Row
+  aheadAt (constant b) i m = nothing
+  aheadAt (atom p) i m = nothing
+  aheadAt (negation a) i m = nothing
+  aheadAt (conjunction a b) i m = nothing
+  aheadAt (disjunction a b) i m = nothing
+  aheadAt (next q a) i m = nothing
+  aheadAt (release q a b) i m = aheadLevel q i a b m
+
+  -- its G
+  unfoldable pub eitherAt : Operator → ℕ → ℕ → Row
+  eitherAt (constant b) i m = nothing
+  eitherAt (atom p) i m = nothing
+  eitherAt (negation a) i m = nothing
+  eitherAt (conjunction a b) i m = nothing
+  eitherAt (disjunction a b) i m = nothing
+  eitherAt (next q a) i m = nothing
+  eitherAt (release q a b) i m = eitherLevel q i a b m
+
+  -- ---- the row of a variable
+
+  unfoldable pub rowOf : Var → Row
+  rowOf (step j) = K .steps (stepAt T j .from)
+  rowOf (kept s) = K .kept
+  rowOf (node i s) = K .nodes i
+  rowOf (edge i m j) = edgesAt (operatorOf (nodeAt T i)) i m (stepAt T j .from)
+  rowOf (ahead i m s) = aheadAt (operatorOf (nodeAt T i)) i m
+  rowOf (either i m s) = eitherAt (operatorOf (nodeAt T i)) i m
+  rowOf (level i m s) = K .levels i m
+
+  -- the literal is known
+  abbrev pub Says : Literal Var → Type 0
+  Says l = known (rowOf (l .var)) (l .sign) (placeOf T (l .var)) ≡ true
+
+  -- the row of a literal, in which true means that the literal is, and its place
+  pub record Is (l : Literal Var) (r : Row) (s : ℕ) : Type 0 where
+    pub row-is : turned (l .sign) (rowOf (l .var)) ≡ r
+    pub place-is : placeOf T (l .var) ≡ s
+
+  module _ {l : Literal Var} {r : Row} {s : ℕ} (i : Is l r s) where
+    says-known : known (rowOf (l .var)) (l .sign) (placeOf T (l .var)) ≡ known r true s
+    says-known = sym (turned-known (l .sign) _ _) ∙ ap₂ (λ (r : Row) (s : ℕ). known r true s) (i .row-is) (i .place-is)
+
+    says-opposite : known (rowOf (l .var)) (not (l .sign)) (placeOf T (l .var)) ≡ known r false s
+    says-opposite = sym (turned-opposite (l .sign) _ _) ∙ ap₂ (λ (r : Row) (s : ℕ). known r false s) (i .row-is) (i .place-is)
+
+    -- the literal is known where its row says so, and its opposite where the row says the opposite
+    pub to-row : Says l → known r true s ≡ true
+    to-row e = sym says-known ∙ e
+
+    pub of-row : known r true s ≡ true → Says l
+    of-row e = says-known ∙ e
+
+    pub to-opposite : Says (opposite l) → known r false s ≡ true
+    to-opposite e = sym says-opposite ∙ e
+
+    pub of-opposite : known r false s ≡ true → Says (opposite l)
+    of-opposite e = says-opposite ∙ e
+
+  -- ---- gates of one and of two inputs, by their rows
+
+  -- one input, with the same row at the same place
+  pub one-row : {h x : Literal Var} {g p : Row} {s : ℕ} → Is h g s → Is x p s → WithinAt s p g → WithinAt s g p → AndRules Says h (x ∷ [])
+  one-row {h} {x} ih ix up down = one-rules Says h x
+      (λ e. of-row ih (up true (to-row ix e)))
+      (λ e. of-row ix (down true (to-row ih e)))
+      (λ e. of-opposite ih (up false (to-opposite ix e)))
+      (λ e. of-opposite ix (down false (to-opposite ih e)))
+
+  pub two-rows : {h x y : Literal Var} {g p q : Row} {s : ℕ} → Is h g s → Is x p s → Is y q s → ¬ (x ≡ y) → AndRow g p q s
+      → AndRules Says h (x ∷ y ∷ [])
+  two-rows {h} {x} {y} ih ix iy apart r = two-rules Says h x y apart
+      (λ e f. of-row ih (r .up (to-row ix e) (to-row iy f)))
+      (λ e. of-row ix (r .left (to-row ih e)))
+      (λ e. of-row iy (r .right (to-row ih e)))
+      (λ e. of-opposite ih (r .no-left (to-opposite ix e)))
+      (λ e. of-opposite ih (r .no-right (to-opposite iy e)))
+      (λ e f. of-opposite ix (r .last-left (to-opposite ih e) (to-row iy f)))
+      (λ e f. of-opposite iy (r .last-right (to-opposite ih e) (to-row ix f)))

@@ -1,0 +1,80 @@
+-- Two rows are added, each worked out from the rows as they were.
+use mathlib.Core.Path.{ap, ap₂, _∙_}
+use lib.ListN.{getD}
+use denote.Ref.{now}
+use Rattle.closure.specs.Rules.{keptRow, keptSteps}
+use Rattle.closure.specs.Memory.{stepPlace, keptPlace}
+use Rattle.closure.specs.Sweep.{keptStep}
+use Rattle.closure.proofs.Chain.{added, after-add}
+use borrow.Author.Needs.{needs}
+use Rattle.closure.proofs.kept.kept_step.Statement.{statement}
+use Rattle.closure.proofs.kept.kept_step.Tie as tie
+
+mul-target : tie.Need-mul-target
+mul-target c = search needs
+
+shared-slice-read-target : tie.Need-shared-slice-read-target
+shared-slice-read-target c = search needs
+
+mul-row-at : tie.Need-mul-row-at
+mul-row-at c = search needs
+
+row-at-requires : tie.Need-row-at-requires
+row-at-requires c κs = search needs
+
+row-at-requires-2 : tie.Need-row-at-requires-2
+row-at-requires-2 c κs = search needs
+
+kept-row-requires : tie.Need-kept-row-requires
+kept-row-requires c κs = search needs
+
+add-requires : tie.Need-add-requires
+add-requires c κs = search needs
+
+mul-add : tie.Need-mul-add
+mul-add c = search needs
+
+kept-steps-requires : tie.Need-kept-steps-requires
+kept-steps-requires c κs = search needs
+
+add-requires-2 : tie.Need-add-requires-2
+add-requires-2 c κs = search needs
+
+both-requires : tie.Need-both-requires
+both-requires c κs = search needs
+
+same-length : tie.Need-same-length
+same-length c = search needs
+
+returns : tie.Need-returns
+unfolding keptStep
+returns c =
+    let second = c .before .before .before in
+    let first = second .before .before .before .before .before in
+    let start = first .before .before .before in
+    let a = start .before .before .before .before .before .before .before .args in
+    let target = getD (now (a .targets)) (a .s) 0 in
+    let steps = start .before .before .row-at .ensures in
+    λ w. after-add (stepPlace (a .s))
+    (added (now (a .rows)) keptPlace (first .before .kept-row .ensures ∙ ap (keptRow (a .s) target) steps) (first .add .ensures) w)
+    (second .before .kept-steps .ensures ∙ ap₂ (keptSteps (a .s) target) steps (start .row-at2 .ensures))
+    (second .add2 .ensures)
+    (c .both .ensures)
+
+pub kept-step-spec : {M : Type 1} → statement M
+kept-step-spec =
+    tie.close
+    (tie.spec
+    mul-target
+    shared-slice-read-target
+    mul-row-at
+    row-at-requires
+    row-at-requires-2
+    kept-row-requires
+    add-requires
+    mul-add
+    kept-steps-requires
+    add-requires-2
+    both-requires
+    same-length
+    returns)

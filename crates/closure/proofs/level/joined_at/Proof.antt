@@ -1,0 +1,83 @@
+-- `joined_at` meets its contract: what was read is what the model reads.
+use Prim.Native.Nat.{ℕ, suc}
+use mathlib.Core.Path.{_≡_, refl, ap, _∙_}
+use native.Mathlib.Numerals.{add-one}
+use native.Mathlib.Omega.{arith}
+use denote.Ref.{now}
+use lib.ListN.{getD}
+use Rattle.closure.specs.Row.{turned}
+use Rattle.closure.specs.Rules.{aheadRow, joinRelease}
+use Rattle.closure.specs.Memory.{rowAt, stepPlace}
+use Rattle.closure.specs.Sweep.{memory, aheadIn, levelAt}
+use borrow.Author.Needs.{needs}
+use Rattle.closure.proofs.level.joined_at.Statement.{statement}
+use Rattle.closure.proofs.level.joined_at.Tie as tie
+
+turn-requires : tie.Need-turn-requires
+turn-requires c κs = search needs
+
+ahead-requires : tie.Need-ahead-requires
+ahead-requires c κs = search needs
+
+turn-requires-2 : tie.Need-turn-requires-2
+turn-requires-2 c κs = search needs
+
+add-level-row : tie.Need-add-level-row
+add-level-row c = search needs
+
+level-row-requires : tie.Need-level-row-requires
+level-row-requires c κs = search needs
+
+mul-row-at : tie.Need-mul-row-at
+mul-row-at c = search needs
+
+add-row-at : tie.Need-add-row-at
+add-row-at c = search needs
+
+row-at-requires : tie.Need-row-at-requires
+row-at-requires c κs = search needs
+
+mul-row-at-2 : tie.Need-mul-row-at-2
+mul-row-at-2 c = omega (arith, c .before .before .before .before .before .before .before .before .before .before .pre .0 .b-below, c .before .before .before .before .before .before .before .before .before .before .pre .0 .rows-size)
+
+add-row-at-2 : tie.Need-add-row-at-2
+add-row-at-2 c = omega (arith, c .before .before .before .before .before .before .before .before .before .before .pre .0 .b-below, c .before .before .before .before .before .before .before .before .before .before .pre .0 .rows-size)
+
+row-at-requires-2 : tie.Need-row-at-requires-2
+row-at-requires-2 c κs = omega (arith, c .before .before .before .before .before .before .before .before .before .before .pre .0 .b-below, c .before .before .before .before .before .before .before .before .before .before .pre .0 .rows-size)
+
+join-release-requires : tie.Need-join-release-requires
+join-release-requires c κs = search needs
+
+returns : tie.Need-returns
+returns c =
+    let a = c .before .before .before .before .before .before .before .before .before .before .before .before .args in
+    let M = memory (now (a .rows)) (now (a .words)) in
+    let t = c .before .before .before .before .before .before .before .before .turn in
+    let h = c .before .before .before .before .before .before .before .ahead in
+    let u = c .before .before .before .before .before .before .turn2 in
+    let l = c .before .before .before .before .before .level-row in
+    let p = c .before .before .before .row-at in
+    let q = c .before .row-at2 in
+    let up : u .result ≡ aheadIn (now (a .targets)) (a .n) (a .x .every) (a .below) M =
+    u .ensures ∙ ap (turned (a .x .every)) (h .ensures ∙ ap (aheadRow (λ s. getD (now (a .targets)) s 0) (λ s. rowAt (now (a .rows)) (stepPlace s)) (a .n)) (t .ensures)) in
+    let here : l .result ≡ levelAt (a .n) (a .x) (suc (a .m)) M = l .ensures ∙ ap (λ (k : ℕ). levelAt (a .n) (a .x) k M) (add-one (a .m)) in
+    c .join-release .ensures ∙ (λ i. joinRelease (here i) (p .ensures i) (q .ensures i) (up i))
+
+pub joined-at-spec : {M : Type 1} → statement M
+joined-at-spec =
+    tie.close
+    (tie.spec
+    turn-requires
+    ahead-requires
+    turn-requires-2
+    add-level-row
+    level-row-requires
+    mul-row-at
+    add-row-at
+    row-at-requires
+    mul-row-at-2
+    add-row-at-2
+    row-at-requires-2
+    join-release-requires
+    returns)

@@ -1,0 +1,69 @@
+-- `level_back` meets its contract: back to the steps, then to the level below.
+use mathlib.Core.Path.{ap, _∙_}
+use denote.Ref.{now}
+use Rattle.closure.specs.declared.row.Row.{Row}
+use Rattle.closure.specs.Row.{turned}
+use Rattle.closure.specs.Back.{backRows, backRow, backReport}
+use Rattle.closure.specs.Sweep.{memory, addLevel}
+use Rattle.closure.proofs.Chain.{after}
+use borrow.Author.Needs.{needs}
+use Rattle.closure.proofs.level.level_back.Statement.{statement}
+use Rattle.closure.proofs.level.level_back.Tie as tie
+
+turn-requires : tie.Need-turn-requires
+turn-requires c κs = search needs
+
+turn-requires-2 : tie.Need-turn-requires-2
+turn-requires-2 c κs = search needs
+
+go-back-requires : tie.Need-go-back-requires
+go-back-requires c κs = search needs
+
+turn-requires-3 : tie.Need-turn-requires-3
+turn-requires-3 c κs = search needs
+
+add-level-requires : tie.Need-add-level-requires
+add-level-requires c κs = search needs
+
+both-requires : tie.Need-both-requires
+both-requires c κs = search needs
+
+same-length : tie.Need-same-length
+same-length c = search needs
+
+same-length-2 : tie.Need-same-length-2
+same-length-2 c = search needs
+
+returns : tie.Need-returns
+returns c =
+    let a = c .before .before .before .before .before .before .before .before .before .before .before .before .before .before .before .before .before .before .args in
+    let t = c .before .before .before .before .before .before .before .before .before .before .before .before .before .turn in
+    let u = c .before .before .before .before .before .before .before .before .before .before .before .before .turn2 in
+    let k = c .before .before .before .before .before .before .before .before .before .before .before .go-back in
+    let v = c .before .before .before .before .before .before .turn3 in
+    let l = c .before .before .before .before .before .add-level in
+    let T = now (a .targets) in
+    let rows = now (a .rows) in
+    after {S = record { memory = memory (backRows T (turned (a .x .every) (a .ahead)) (turned (a .x .every) (a .below)) rows (a .n)) (now (a .words)); report = backReport T (turned (a .x .every) (a .ahead)) (turned (a .x .every) (a .below)) rows (a .n) }}
+    (addLevel (a .n) (a .x) (a .m) (turned (a .x .every) (backRow T (turned (a .x .every) (a .ahead)) (turned (a .x .every) (a .below)) rows (a .n))))
+    (λ i. record {
+      memory = memory ((k .ensures .1 .1 ∙ (λ j. backRows T (t .ensures j) (u .ensures j) rows (a .n))) i) (now (a .words));
+      report = (k .ensures .1 .0 ∙ (λ j. backReport T (t .ensures j) (u .ensures j) rows (a .n))) i;
+    })
+    (l .ensures ∙ ap (λ (r : Row). addLevel (a .n) (a .x) (a .m) r (memory (k .last .1 .0) (now (a .words))))
+    (v .ensures ∙ ap (turned (a .x .every)) (k .ensures .0 ∙ (λ j. backRow T (t .ensures j) (u .ensures j) rows (a .n)))))
+    (c .both .ensures)
+
+pub level-back-spec : {M : Type 1} → statement M
+level-back-spec =
+    tie.close
+    (tie.spec
+    turn-requires
+    turn-requires-2
+    go-back-requires
+    turn-requires-3
+    add-level-requires
+    both-requires
+    same-length
+    same-length-2
+    returns)

@@ -1,0 +1,62 @@
+-- `level_row` meets its contract: level 0 is the row of b, level n the node's own, every other lies in the words.
+use borrow.Author.Tests.{eq-eqb, ne-eqb}
+use borrow.Author.Needs.{needs}
+use Rattle.closure.proofs.level.level_row.Statement.{statement}
+use Rattle.closure.proofs.level.level_row.Tie as tie
+
+mul-row-at : tie.Need-mul-row-at
+mul-row-at c = search needs
+
+add-row-at : tie.Need-add-row-at
+add-row-at c = search needs
+
+row-at-requires : tie.Need-row-at-requires
+row-at-requires c κs = search needs
+
+returns : tie.Need-returns
+returns c = simp (eq-eqb _ _ (c .before .before .if1 .taken)) (c .row-at .ensures)
+
+mul-row-at-2 : tie.Need-mul-row-at-2
+mul-row-at-2 c = search needs
+
+add-row-at-2 : tie.Need-add-row-at-2
+add-row-at-2 c = search needs
+
+row-at-requires-2 : tie.Need-row-at-requires-2
+row-at-requires-2 c κs = search needs
+
+returns-2 : tie.Need-returns-2
+returns-2 c = simp (ne-eqb _ _ (c .before .before .before .if1 .left), eq-eqb _ _ (c .before .before .if2 .taken)) (c .row-at2 .ensures)
+
+sub-row-at : tie.Need-sub-row-at
+sub-row-at c = search needs
+
+mul-row-at-3 : tie.Need-mul-row-at-3
+mul-row-at-3 c = search needs
+
+add-row-at-3 : tie.Need-add-row-at-3
+add-row-at-3 c = search needs
+
+row-at-requires-3 : tie.Need-row-at-requires-3
+row-at-requires-3 c κs = search needs
+
+returns-3 : tie.Need-returns-3
+returns-3 c = simp (ne-eqb _ _ (c .before .before .before .if1 .left), ne-eqb _ _ (c .before .before .if2 .left)) (c .row-at3 .ensures)
+
+pub level-row-spec : {M : Type 1} → statement M
+level-row-spec =
+    tie.close
+    (tie.spec
+    mul-row-at
+    add-row-at
+    row-at-requires
+    returns
+    mul-row-at-2
+    add-row-at-2
+    row-at-requires-2
+    returns-2
+    sub-row-at
+    mul-row-at-3
+    add-row-at-3
+    row-at-requires-3
+    returns-3)

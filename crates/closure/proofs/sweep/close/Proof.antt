@@ -1,0 +1,115 @@
+-- `close` meets its contract: sweeps until one fails or adds nothing. It ends because the words only grow.
+use Prim.Native.Nat.{ℕ, _+_, _*_, _-_, _^_, _<_}
+use mathlib.Core.Path.{_≡_, sym, ap, subst, _∙_}
+use mathlib.Core.Bool.{Bool}
+use mathlib.Core.List.{List}
+use native.Mathlib.Omega.{arith}
+use borrow.Author.Tests.{not-true, not-false}
+use lib.ListN.{length}
+use denote.Ref.{now}
+use Rattle.table.specs.Table.{tableOf}
+use Rattle.closure.specs.declared.net.Net.{Net}
+use Rattle.closure.specs.declared.row.Report.{Report}
+use Rattle.closure.specs.Memory.{Sized, total}
+use Rattle.closure.specs.Rest.{Rest}
+use Rattle.closure.specs.Advance.{Advance}
+use Rattle.closure.specs.Setting.{Setting}
+use Rattle.closure.specs.Sweep.{Stepped, memory, stepped, sweep}
+use Rattle.closure.proofs.SettingFacts.{wellformed}
+use Rattle.closure.proofs.SweepAdvance.{sweep-advance}
+use Rattle.closure.proofs.Closing.{Reached, reached-first, reached-more, closed-failing, closed-resting, total-bound}
+use Rattle.closure.proofs.sweep.close.Statement.{statement}
+use Rattle.closure.proofs.sweep.close.Tie as tie
+
+-- what a sweep of the code did is an advance
+advanced : {table : List ℕ} {net : Net} {targets bases : List ℕ} (g : Setting table net targets bases) (down : Bool) (rows words : List ℕ)
+    → Sized (tableOf table) (memory rows words) → (rows′ words′ : List ℕ) (r : Report)
+    → stepped rows′ words′ r ≡ sweep table net targets bases down (memory rows words)
+    → Advance (tableOf table) (Rest (tableOf table)) (memory rows words) (memory rows′ words′) r
+advanced {table} {net} {targets} {bases} g down rows words z rows′ words′ r e =
+    subst (λ (s : Stepped). Advance (tableOf table) (Rest (tableOf table)) (memory rows words) (s .memory) (s .report)) (sym e)
+    (sweep-advance table net targets bases g down (memory rows words) z)
+
+abbrev Inv-loop : tie.InvT-loop
+Inv-loop table net targets bases rows₀ words₀ down₀ rows words down = Reached (tableOf table) (memory rows₀ words₀) (memory rows words)
+
+abbrev μ-loop : tie.MeasureT-loop
+μ-loop table net targets bases rows₀ words₀ down₀ rows words down = (length rows₀ + length words₀) * 2 ^ 32 - total (memory rows words)
+
+loop-holds : tie.Need-loop-holds Inv-loop μ-loop
+loop-holds c = reached-first (tableOf (now (c .before .before .before .before .before .args .table))) _ (c .before .before .before .before .before .pre .1)
+
+sweep-once-requires : tie.Need-sweep-once-requires Inv-loop μ-loop
+sweep-once-requires c κs = (c .before .before .before .before .before .before .before .before .pre .0, c .before .before .loop .inv .sized)
+
+same-length : tie.Need-same-length Inv-loop μ-loop
+same-length c = c .before .before .before .before .before .sweep-once .kept .1 .1 .1 .1 .0 ∙ c .before .before .before .before .before .before .before .before .loop .inv .sized .rows-size ∙ sym (c .before .before .before .before .before .before .before .before .before .before .before .before .before .before .pre .1 .rows-size)
+
+same-length-2 : tie.Need-same-length-2 Inv-loop μ-loop
+same-length-2 c = c .before .before .before .before .before .sweep-once .kept .1 .1 .1 .1 .1 .0 ∙ c .before .before .before .before .before .before .before .before .loop .inv .same-words-length
+
+returns : tie.Need-returns Inv-loop μ-loop
+returns c =
+    let a = c .before .before .before .before .before .before .before .before .before .before .before .before .before .before .args in
+    let p = c .before .before .before .before .before .before .before .before .before .before .before .before .before .before .pre in
+    let l = c .before .before .before .before .before .before .before .before .loop in
+    let s = c .before .before .before .before .before .sweep-once in
+    let T = tableOf (now (a .table)) in
+    let went = advanced p.0 (l .down) (l .rows) (l .words) (l .inv .sized) _ _ (s .result) (s .ensures) in closed-failing T (l .inv) went (c .if1 .taken)
+
+same-length-3 : tie.Need-same-length-3 Inv-loop μ-loop
+same-length-3 c = c .before .before .before .before .before .before .before .sweep-once .kept .1 .1 .1 .1 .0 ∙ c .before .before .before .before .before .before .before .before .before .before .loop .inv .sized .rows-size ∙ sym (c .before .before .before .before .before .before .before .before .before .before .before .before .before .before .before .before .pre .1 .rows-size)
+
+same-length-4 : tie.Need-same-length-4 Inv-loop μ-loop
+same-length-4 c = c .before .before .before .before .before .before .before .sweep-once .kept .1 .1 .1 .1 .1 .0 ∙ c .before .before .before .before .before .before .before .before .before .before .loop .inv .same-words-length
+
+returns-2 : tie.Need-returns-2 Inv-loop μ-loop
+returns-2 c =
+    let a = c .before .before .before .before .before .before .before .before .before .before .before .before .before .before .before .before .args in
+    let p = c .before .before .before .before .before .before .before .before .before .before .before .before .before .before .before .before .pre in
+    let l = c .before .before .before .before .before .before .before .before .before .before .loop in
+    let s = c .before .before .before .before .before .before .before .sweep-once in
+    let T = tableOf (now (a .table)) in
+    let went = advanced p.0 (l .down) (l .rows) (l .words) (l .inv .sized) _ _ (s .result) (s .ensures) in
+    closed-resting T (wellformed (p .0)) (l .inv) went (c .before .before .if1 .left) (not-true _ (c .if2 .taken))
+
+loop-less : tie.Need-loop-less Inv-loop μ-loop
+loop-less c =
+    let a = c .before .before .before .before .before .before .before .before .before .before .before .before .before .before .before .before .args in
+    let p = c .before .before .before .before .before .before .before .before .before .before .before .before .before .before .before .before .pre in
+    let l = c .before .before .before .before .before .before .before .before .before .before .loop in
+    let s = c .before .before .before .before .before .before .before .sweep-once in
+    let T = tableOf (now (a .table)) in
+    let went = advanced p.0 (l .down) (l .rows) (l .words) (l .inv .sized) _ _ (s .result) (s .ensures) in
+    let less : total (memory (l .rows) (l .words)) < total (memory (s .last .1 .1 .1 .1 .0) (s .last .1 .1 .1 .1 .1 .0)) = went .more (not-false _ (c .if2 .left)) in
+    let most = total-bound {T = T} (memory (s .last .1 .1 .1 .1 .0) (s .last .1 .1 .1 .1 .1 .0)) (went .sized) in
+    let size : length (s .last .1 .1 .1 .1 .0) + length (s .last .1 .1 .1 .1 .1 .0) ≡ length (now (a .rows)) + length (now (a .words)) =
+    omega (arith, went .sized .rows-size, p .1 .rows-size, s .kept .1 .1 .1 .1 .1 .0, l .inv .same-words-length) in
+    let fixed = ap (λ (k : ℕ). k * 2 ^ 32) size in
+    omega (arith, less, most, fixed)
+
+loop-again : tie.Need-loop-again Inv-loop μ-loop
+loop-again c =
+    let a = c .before .before .before .before .before .before .before .before .before .before .before .before .before .before .before .before .args in
+    let p = c .before .before .before .before .before .before .before .before .before .before .before .before .before .before .before .before .pre in
+    let l = c .before .before .before .before .before .before .before .before .before .before .loop in
+    let s = c .before .before .before .before .before .before .before .sweep-once in
+    let T = tableOf (now (a .table)) in
+    let went = advanced p.0 (l .down) (l .rows) (l .words) (l .inv .sized) _ _ (s .result) (s .ensures) in reached-more T (l .inv) went
+
+pub close-spec : {M : Type 1} → statement M
+close-spec =
+    tie.close
+    (tie.spec
+    Inv-loop
+    μ-loop
+    loop-holds
+    sweep-once-requires
+    same-length
+    same-length-2
+    returns
+    same-length-3
+    same-length-4
+    returns-2
+    loop-less
+    loop-again)

@@ -1,0 +1,12 @@
+pub mod Closure
+pub mod Numbered
+pub mod Row
+pub mod Memory
+pub mod Rules
+pub mod Back
+pub mod Rest
+pub mod Inside
+pub mod Advance
+pub mod Closes
+pub mod Sweep
+pub mod Setting

@@ -1,0 +1,89 @@
+-- At rest: the rules at a state add nothing, and nothing is known both ways there. Where the rules at every state are at rest, the rows hold
+-- all that is forced, whatever the order in which they got there.
+use Prim.Native.Nat.{ℕ, suc, _<_}
+use mathlib.Core.Path.{_≡_}
+use mathlib.Core.Bool.{Bool, true, false, cond}
+use lib.Dec.{eqb}
+use lib.ListN.{length}
+use Rattle.sets.specs.Member.{member, setOf}
+use Rattle.table.specs.Table.{Table, stateAt, nodeAt}
+use Rattle.table.specs.Rows.{targetSet}
+use Rattle.ctl.specs.Rule.{Quantifier, every, some, Operator, constant, atom, negation, conjunction, disjunction, next, release, operatorOf, rootIndex}
+use Rattle.closure.specs.declared.row.Row.{Row}
+use Rattle.closure.specs.Row.{known, turned, WithinAt, Within, ClearAt}
+use Rattle.closure.specs.Rules.{isEvery, row, aheadRow, backSteps, backEnd, andOutput, andInput, eitherRow, joinRelease, keptRow, keptSteps, openStarts, startKept, startRoot, constantRow}
+use Rattle.closure.specs.Memory.{Knowledge}
+
+-- the states whose label has p
+abbrev pub labelledSet : Table → ℕ → ℕ
+labelledSet T p = setOf (length (T .states)) (λ s. member (stateAt T s .label) p)
+
+abbrev pub initialSet : Table → ℕ
+initialSet T = setOf (length (T .states)) (λ s. eqb (stateAt T s .initial) 1)
+
+-- the states of a constant
+abbrev pub constantSet : Table → Bool → ℕ
+constantSet T b = setOf (length (T .states)) (λ s. b)
+
+module _ (T : Table) (K : Knowledge) where
+  -- N of each state over what is known at the ends, for A or for E
+  abbrev pub aheadOf : Quantifier → Row → Row
+  aheadOf q end = turned (isEvery q) (aheadRow (targetSet (T .steps)) (K .steps) (length (T .states)) (turned (isEvery q) end))
+
+  -- N at state s, known as `ahead` says, adds nothing to the steps out of s, nor to `end`
+  pub record RestBack (q : Quantifier) (ahead end : Row) (s : ℕ) : Type 0 where
+    pub steps : Within (backSteps (targetSet (T .steps) s) (K .steps s) (turned (isEvery q) end) (known (turned (isEvery q) ahead) true s) (known (turned (isEvery q) ahead) false s)) (K .steps s)
+    pub ends : Within (backEnd (targetSet (T .steps) s) (K .steps s) (turned (isEvery q) end) (known (turned (isEvery q) ahead) true s) (known (turned (isEvery q) ahead) false s)) (turned (isEvery q) end)
+
+  -- K of s and the steps out of s
+  pub record RestKept (s : ℕ) : Type 0 where
+    pub up : Within (keptRow s (targetSet (T .steps) s) (K .steps s)) (K .kept)
+    pub down : Within (keptSteps s (targetSet (T .steps) s) (K .steps s) (K .kept)) (K .steps s)
+    pub clear : (t : ℕ) → ClearAt t (K .steps s)
+    pub clear-kept : ClearAt s (K .kept)
+
+  -- the demands of the initial states
+  pub record RestStart : Type 0 where
+    pub some-open : openStarts (initialSet T) (K .kept) ≡ 0 → ⊥
+    pub kept : Within (startKept (initialSet T) (K .kept) (K .nodes (rootIndex T))) (K .kept)
+    pub root : Within (startRoot (initialSet T) (K .kept)) (K .nodes (rootIndex T))
+
+  -- AND (or, by duals, OR) of the nodes a and b, at state s
+  pub record RestBoth (q : Quantifier) (i a b s : ℕ) : Type 0 where
+    pub up : WithinAt s (andOutput (turned (isEvery q) (K .nodes i)) (turned (isEvery q) (K .nodes a)) (turned (isEvery q) (K .nodes b))) (turned (isEvery q) (K .nodes i))
+    pub left : WithinAt s (andInput (turned (isEvery q) (K .nodes i)) (turned (isEvery q) (K .nodes b))) (turned (isEvery q) (K .nodes a))
+    pub right : WithinAt s (andInput (turned (isEvery q) (K .nodes i)) (turned (isEvery q) (K .nodes a))) (turned (isEvery q) (K .nodes b))
+
+  -- one input: the value passes both ways
+  pub record RestSame (r q : Row) (s : ℕ) : Type 0 where
+    pub up : WithinAt s q r
+    pub down : WithinAt s r q
+
+  -- level m + 1 of node i at state s
+  pub record RestLevel (q : Quantifier) (i a b m s : ℕ) : Type 0 where
+    pub either-clear : ClearAt s (eitherRow (K .levels i (suc m)) (K .nodes a) (K .nodes b) (aheadOf q (K .levels i m)))
+    pub ahead-clear : ClearAt s (joinRelease (K .levels i (suc m)) (K .nodes a) (K .nodes b) (aheadOf q (K .levels i m)) .ahead)
+    pub level : WithinAt s (joinRelease (K .levels i (suc m)) (K .nodes a) (K .nodes b) (aheadOf q (K .levels i m)) .level) (K .levels i (suc m))
+    pub left : WithinAt s (joinRelease (K .levels i (suc m)) (K .nodes a) (K .nodes b) (aheadOf q (K .levels i m)) .a) (K .nodes a)
+    pub right : WithinAt s (joinRelease (K .levels i (suc m)) (K .nodes a) (K .nodes b) (aheadOf q (K .levels i m)) .b) (K .nodes b)
+    pub back : RestBack q (joinRelease (K .levels i (suc m)) (K .nodes a) (K .nodes b) (aheadOf q (K .levels i m)) .ahead) (K .levels i m) s
+    pub clear : ClearAt s (K .levels i (suc m))
+
+  -- node i, whose operator is given, at state s
+  abbrev pub RestNode : ℕ → Operator → ℕ → Type 0
+  RestNode i (constant b) s = WithinAt s (constantRow (length (T .states)) (constantSet T b)) (K .nodes i)
+  RestNode i (atom p) s = WithinAt s (constantRow (length (T .states)) (labelledSet T p)) (K .nodes i)
+  RestNode i (negation a) s = RestSame (K .nodes i) (turned false (K .nodes a)) s
+  RestNode i (conjunction a b) s = cond (eqb a b) (RestSame (K .nodes i) (K .nodes a) s) (RestBoth every i a b s)
+  RestNode i (disjunction a b) s = cond (eqb a b) (RestSame (K .nodes i) (K .nodes a) s) (RestBoth some i a b s)
+  RestNode i (next q a) s = WithinAt s (aheadOf q (K .nodes a)) (K .nodes i) × RestBack q (K .nodes i) (K .nodes a) s
+  RestNode i (release q a b) s = (m : ℕ) → m < length (T .states) → RestLevel q i a b m s
+
+  pub record Rest : Type 0 where
+    pub kept : (s : ℕ) → s < length (T .states) → RestKept s
+    pub start : RestStart
+    pub nodes : (i : ℕ) → i < length (T .nodes) → (s : ℕ) → s < length (T .states) → RestNode i (operatorOf (nodeAt T i)) s
+    pub clear : (i : ℕ) → i < length (T .nodes) → (s : ℕ) → s < length (T .states) → ClearAt s (K .nodes i)
+    -- level 0 of a fixed-point node is its second child's row, level n its own
+    pub first : (i : ℕ) (q : Quantifier) (a b : ℕ) → i < length (T .nodes) → operatorOf (nodeAt T i) ≡ release q a b → K .levels i 0 ≡ K .nodes b
+    pub last : (i : ℕ) (q : Quantifier) (a b : ℕ) → i < length (T .nodes) → operatorOf (nodeAt T i) ≡ release q a b → K .levels i (length (T .states)) ≡ K .nodes i

@@ -1,0 +1,34 @@
+-- What propagation is told of a table beside its bytes, worked out once before a search.
+use Prim.Native.Nat.{ℕ, _+_, _*_, _-_, _≤_, _<_}
+use mathlib.Core.Path.{_≡_}
+use mathlib.Core.List.{List}
+use lib.ListN.{length, getD}
+use Rattle.table.specs.declared.refusal.Verdict.the-variants.{Accepted}
+use Rattle.table.specs.Table.{Table, tableOf}
+use Rattle.table.specs.Accept.{tableVerdict}
+use Rattle.table.specs.Rows.{targetSet}
+use Rattle.closure.specs.declared.net.Net.{Net}
+use Rattle.closure.specs.declared.level.Fixpoint.{Fixpoint}
+use Rattle.closure.specs.Rest.{initialSet}
+use Rattle.closure.specs.Memory.{levelBase}
+
+-- the counts of states and nodes, and the initial states
+abbrev pub netOf : Table → Net
+netOf T = record { states = length (T .states); nodes = length (T .nodes); initial = initialSet T }
+
+-- an accepted table, its counts, the ends of the steps out of each state, and where the levels of each node lie
+pub record Setting (table : List ℕ) (net : Net) (targets bases : List ℕ) : Type 0 where
+  pub accepted : tableVerdict table ≡ Accepted
+  pub counts : net ≡ netOf (tableOf table)
+  pub targets-size : length targets ≡ 32
+  pub targets-at : (s : ℕ) → s < 32 → getD targets s 0 ≡ targetSet (tableOf table .steps) s
+  pub bases-size : length bases ≡ 32
+  pub bases-at : (i : ℕ) → i < 32 → getD bases i 0 ≡ levelBase (tableOf table) i
+
+-- the rows of a fixed-point node lie in the memory
+pub record Fits (n : ℕ) (x : Fixpoint) (rows words : List ℕ) : Type 0 where
+  pub rows-size : length rows ≡ 130
+  pub node-below : x .node < 32
+  pub a-below : x .a < 32
+  pub b-below : x .b < 32
+  pub levels-below : x .base + 2 * (n - 1) ≤ length words

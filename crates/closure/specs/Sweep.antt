@@ -1,0 +1,166 @@
+-- Propagation as a function of the memory: each rule of Rules.antt applied where its rows lie, at every state, node and level. The code's
+-- contracts equate it with these.
+use Prim.Native.Nat.{ℕ, zero, suc, _+_, _*_, _-_}
+use mathlib.Core.Bool.{Bool, true, false, cond}
+use mathlib.Core.List.{List}
+use lib.Dec.{eqb}
+use lib.ListN.{getD}
+use Rattle.sets.specs.Member.{setOf}
+use Rattle.table.specs.Table.{Table, tableOf, nodeAt, statesPart}
+use Rattle.table.specs.StateSets.{labelledWord}
+use Rattle.ctl.specs.Rule.{Quantifier, every, some, Operator, constant, atom, negation, conjunction, disjunction, next, release, operatorOf}
+use Rattle.closure.specs.declared.row.Row.{Row}
+use Rattle.closure.specs.declared.row.Report.{Report}
+use Rattle.closure.specs.declared.net.Net.{Net}
+use Rattle.closure.specs.declared.level.Fixpoint.{Fixpoint}
+use Rattle.closure.specs.declared.join.Joined.{Joined}
+use Rattle.closure.specs.Row.{turned}
+use Rattle.closure.specs.Rules.{isEvery, row, aheadRow, andOutput, andInput, joinRelease, keptRow, keptSteps, openStarts, startKept, startRoot, constantRow}
+use Rattle.closure.specs.Memory.{Memory, rowAt, joined, reportOf, bothReports, stepPlace, nodePlace, keptPlace}
+use Rattle.closure.specs.Back.{quietReport, backRows, backRow, backReport}
+
+-- ---- one thing after the other
+
+-- the memory as it is left, and what was done to it
+pub record Stepped : Type 0 where
+  pub memory : Memory
+  pub report : Report
+
+abbrev pub memory : List ℕ → List ℕ → Memory
+memory rows words = record { rows = rows; words = words }
+
+abbrev pub stepped : List ℕ → List ℕ → Report → Stepped
+stepped rows words r = record { memory = memory rows words; report = r }
+
+-- nothing is done; it has failed if so
+abbrev pub failing : Bool → Memory → Stepped
+failing f M = record { memory = M; report = record { changed = false; fails = f } }
+
+infixl 20 _andThen_
+abbrev pub _andThen_ : Stepped → (Memory → Stepped) → Stepped
+s andThen f = record { memory = f (s .memory) .memory; report = bothReports (s .report) (f (s .memory) .report) }
+
+-- what a row knows added to the row at a place, of the rows and of the words
+abbrev pub addRow : ℕ → Row → Memory → Stepped
+addRow at x M = record { memory = memory (joined (M .rows) at x) (M .words); report = reportOf (M .rows) at x }
+
+abbrev pub addWord : ℕ → Row → Memory → Stepped
+addWord at x M = record { memory = memory (M .rows) (joined (M .words) at x); report = reportOf (M .words) at x }
+
+abbrev pub nodeRow : Memory → ℕ → Row
+nodeRow M i = rowAt (M .rows) (nodePlace i)
+
+-- for each number below k, up or down
+unfoldable pub eachBelow : (ℕ → Memory → Stepped) → ℕ → Memory → Stepped
+eachBelow f zero M = failing false M
+eachBelow f (suc k) M = eachBelow f k M andThen f k
+
+-- the k-th of n numbers, going up or going down
+abbrev pub ordered : Bool → ℕ → ℕ → ℕ
+ordered down n k = cond down (n - 1 - k) k
+
+-- ---- the steps out of the states
+
+module _ (targets : List ℕ) (n : ℕ) where
+  -- N over a row of ends
+  abbrev pub aheadIn : Bool → Row → Memory → Row
+  aheadIn e end M = turned e (aheadRow (λ s. getD targets s 0) (λ s. rowAt (M .rows) (stepPlace s)) n (turned e end))
+
+  -- back from N to the steps, and to the row of the ends by `addEnd`
+  abbrev pub goBack : Bool → Row → Row → (Row → Memory → Stepped) → Memory → Stepped
+  goBack e ahead end addEnd M =
+      (record {
+        memory = memory (backRows targets (turned e ahead) (turned e end) (M .rows) n) (M .words);
+        report = backReport targets (turned e ahead) (turned e end) (M .rows) n;
+      })
+      andThen addEnd (turned e (backRow targets (turned e ahead) (turned e end) (M .rows) n))
+
+-- ---- levels: level 0 is the row of b and level n that of the node; the others lie in the words from `base` on
+
+module _ (n : ℕ) (x : Fixpoint) where
+  abbrev pub levelAt : ℕ → Memory → Row
+  levelAt m M = cond (eqb m 0) (nodeRow M (x .b)) (cond (eqb m n) (nodeRow M (x .node)) (rowAt (M .words) (x .base + 2 * (m - 1))))
+
+  abbrev pub addLevel : ℕ → Row → Memory → Stepped
+  addLevel m r M =
+      cond (eqb m 0) (addRow (nodePlace (x .b)) r M) (cond (eqb m n) (addRow (nodePlace (x .node)) r M) (addWord (x .base + 2 * (m - 1)) r M))
+
+module _ (targets : List ℕ) (n : ℕ) (x : Fixpoint) (m : ℕ) where
+  -- what the join of a level gives, added where it belongs
+  abbrev pub addJoined : Joined → Memory → Stepped
+  addJoined J M =
+      failing (J .fails) M
+      andThen addLevel n x (suc m) (J .level)
+      andThen addRow (nodePlace (x .a)) (J .a)
+      andThen addRow (nodePlace (x .b)) (J .b)
+
+  -- level m + 1 over level m, which is `below`, with N as its ends say
+  abbrev pub joinedAt : Row → Memory → Joined
+  joinedAt below M = joinRelease (levelAt n x (suc m) M) (nodeRow M (x .a)) (nodeRow M (x .b)) (aheadIn targets n (x .every) below M)
+
+  abbrev pub levelWith : Row → Joined → Memory → Stepped
+  levelWith below J M = addJoined J M andThen goBack targets n (x .every) (J .ahead) below (addLevel n x m)
+
+  unfoldable pub levelStep : Memory → Stepped
+  levelStep M = levelWith (levelAt n x m M) (joinedAt (levelAt n x m M) M) M
+
+-- the first k of the levels of a node, upward or downward
+abbrev pub levelsFrom : List ℕ → ℕ → Fixpoint → Bool → ℕ → Memory → Stepped
+levelsFrom targets n x down k M = eachBelow (λ m. levelStep targets n x (ordered down n m)) k M
+
+-- ---- nodes
+
+-- one input: what is known passes both ways
+abbrev pub sameStep : ℕ → Bool → ℕ → Memory → Stepped
+sameStep i e a M =
+    addRow (nodePlace i) (turned e (nodeRow M a)) M
+    andThen (λ M′. addRow (nodePlace a) (turned e (nodeRow M′ i)) M′)
+
+-- AND of two inputs; OR is its dual
+abbrev pub bothStep : ℕ → Bool → ℕ → ℕ → Memory → Stepped
+bothStep i e a b M =
+    let g = andOutput (turned e (nodeRow M i)) (turned e (nodeRow M a)) (turned e (nodeRow M b)) in
+    addRow (nodePlace i) (turned e g) M
+    andThen addRow (nodePlace a) (turned e (andInput g (turned e (nodeRow M b))))
+    andThen addRow (nodePlace b) (turned e (andInput g (turned e (nodeRow M a))))
+
+abbrev pub nextStep : List ℕ → ℕ → ℕ → Bool → ℕ → Memory → Stepped
+nextStep targets n i e a M =
+    addRow (nodePlace i) (aheadIn targets n e (nodeRow M a) M) M
+    andThen (λ M′. goBack targets n e (nodeRow M′ i) (nodeRow M a) (addRow (nodePlace a)) M′)
+
+module _ (table targets bases : List ℕ) (n : ℕ) (down : Bool) (i : ℕ) where
+  unfoldable pub nodeStep : Operator → Memory → Stepped
+  nodeStep (constant b) M = addRow (nodePlace i) (constantRow n (setOf n (λ s. b))) M
+  nodeStep (atom p) M = addRow (nodePlace i) (constantRow n (labelledWord (statesPart table) n p)) M
+  nodeStep (negation a) M = sameStep i false a M
+  nodeStep (conjunction a b) M = cond (eqb a b) (sameStep i true a M) (bothStep i true a b M)
+  nodeStep (disjunction a b) M = cond (eqb a b) (sameStep i true a M) (bothStep i false a b M)
+  nodeStep (next q a) M = nextStep targets n i (isEvery q) a M
+  nodeStep (release q a b) M =
+      levelsFrom targets n (record { node = i; a = a; b = b; every = isEvery q; base = getD bases i 0 }) down n M
+
+-- ---- K and the initial states
+
+module _ (targets : List ℕ) where
+  unfoldable pub keptStep : ℕ → Memory → Stepped
+  keptStep s M =
+      addRow keptPlace (keptRow s (getD targets s 0) (rowAt (M .rows) (stepPlace s))) M
+      andThen addRow (stepPlace s) (keptSteps s (getD targets s 0) (rowAt (M .rows) (stepPlace s)) (rowAt (M .rows) keptPlace))
+
+unfoldable pub startStep : ℕ → ℕ → Memory → Stepped
+startStep initial root M =
+    failing (eqb (openStarts initial (rowAt (M .rows) keptPlace)) 0) M
+    andThen addRow keptPlace (startKept initial (rowAt (M .rows) keptPlace) (nodeRow M root))
+    andThen addRow (nodePlace root) (startRoot initial (rowAt (M .rows) keptPlace))
+
+-- ---- a sweep: K, the initial states, and each node, up or down
+
+module _ (table : List ℕ) (net : Net) (targets bases : List ℕ) (down : Bool) where
+  -- the first k of the nodes
+  unfoldable pub nodesFrom : ℕ → Memory → Stepped
+  nodesFrom = eachBelow (λ k. let i = ordered down (net .nodes) k in
+      nodeStep table targets bases (net .states) down i (operatorOf (nodeAt (tableOf table) i)))
+
+  unfoldable pub sweep : Memory → Stepped
+  sweep M = eachBelow (keptStep targets) (net .states) M andThen startStep (net .initial) (net .nodes - 1) andThen nodesFrom (net .nodes)

@@ -1,0 +1,109 @@
+// K of each state with its steps, and the demands of the initial states.
+use crate::row::Report;
+use crate::row::Row;
+use crate::row::add;
+use crate::row::both;
+use crate::row::is_only;
+use crate::row::row_at;
+ghost use mathlib.Core.Path.{_≡_};
+ghost use mathlib.Core.List.{List};
+ghost use Prim.Native.Nat.{ℕ, _≤_, _<_};
+ghost use lib.ListN.{length, getD};
+ghost use Rattle.closure.specs.Rules.{keptRow, keptSteps, startKept, startRoot};
+ghost use Rattle.closure.specs.Sweep.{memory, stepped, eachBelow, keptStep, startStep};
+
+// What the steps out of s add to K.
+fn kept_row(s: usize, target: u32, step: Row) -> Row
+    requires { ⌜ s < 32 ⌝ }
+    ensures { λ r. ⌜ r ≡ keptRow s target step ⌝ }
+{
+    Row {
+        yes: step.yes | sets::insert_if(0, s, step.yes != 0),
+        no: sets::insert_if(0, s, target & !step.no == 0),
+    }
+}
+
+// What K adds to the steps out of s.
+fn kept_steps(s: usize, target: u32, step: Row, kept: Row) -> Row
+    ensures { λ r. ⌜ r ≡ keptSteps s target step kept ⌝ }
+{
+    let left = target & !step.no;
+    let last = if sets::contains(kept.yes, s) && is_only(left) {
+        left
+    } else {
+        0
+    };
+    let own = if sets::contains(kept.no, s) {
+        target
+    } else {
+        0
+    };
+    Row {
+        yes: last,
+        no: own | target & kept.no,
+    }
+}
+
+fn kept_step(targets: &[u32], rows: &mut [u32], s: usize) -> Report
+    requires { ⌜ (s < 32) × ((length (now targets) ≡ 32) × (length (now rows) ≡ 130)) ⌝ }
+    ensures { λ q. ⌜ ((w : List ℕ) → stepped (now (rows .exit)) w q ≡ keptStep (now (targets .entry)) s (memory (now (rows .entry)) w)) ⌝ }
+{
+    let target = targets[s];
+    let x = row_at(rows, 2 * s);
+    let k = row_at(rows, 128);
+    let first = add(rows, 128, kept_row(s, target, x));
+    both(first, add(rows, 2 * s, kept_steps(s, target, x, k)))
+}
+
+pub fn kept_states(targets: &[u32], rows: &mut [u32], n: usize) -> Report
+    requires { ⌜ (n ≤ 32) × ((length (now targets) ≡ 32) × (length (now rows) ≡ 130)) ⌝ }
+    ensures { λ q. ⌜ ((w : List ℕ) → stepped (now (rows .exit)) w q ≡ eachBelow (keptStep (now (targets .entry))) n (memory (now (rows .entry)) w)) ⌝ }
+{
+    let mut report = Report {
+        changed: false,
+        fails: false,
+    };
+    let mut s = 0;
+    while s < n {
+        report = both(report, kept_step(targets, rows, s));
+        s += 1;
+    }
+    report
+}
+
+// An initial state is kept, and the root holds at each that is.
+pub fn start_step(rows: &mut [u32], initial: u32, root: usize) -> Report
+    requires { ⌜ (root < 32) × (length (now rows) ≡ 130) ⌝ }
+    ensures { λ q. ⌜ ((w : List ℕ) → stepped (now (rows .exit)) w q ≡ startStep initial root (memory (now (rows .entry)) w)) ⌝ }
+{
+    let k = row_at(rows, 128);
+    let x = row_at(rows, 64 + 2 * root);
+    let left = initial & !k.no;
+    let last = if is_only(left) { left } else { 0 };
+    let start = Report {
+        changed: false,
+        fails: left == 0,
+    };
+    let first = both(
+        start,
+        add(
+            rows,
+            128,
+            Row {
+                yes: last,
+                no: x.no & initial,
+            },
+        ),
+    );
+    both(
+        first,
+        add(
+            rows,
+            64 + 2 * root,
+            Row {
+                yes: k.yes & initial,
+                no: 0,
+            },
+        ),
+    )
+}

@@ -1,0 +1,168 @@
+// The levels of a fixed-point node: level 0 is the row of b and level n that of the node, the others lie in the lent words from `base` on.
+use crate::ahead::ahead;
+use crate::ahead::go_back;
+use crate::join::Joined;
+use crate::join::join_release;
+use crate::row::Report;
+use crate::row::Row;
+use crate::row::add;
+use crate::row::both;
+use crate::row::row_at;
+use crate::row::turn;
+ghost use mathlib.Core.Path.{_≡_};
+ghost use Prim.Native.Nat.{_+_, _*_, _-_, _≤_, _<_};
+ghost use lib.ListN.{length};
+ghost use Rattle.closure.specs.Sweep.{memory, stepped, goBack, levelAt, addLevel, addJoined, joinedAt, levelStep, levelsFrom};
+ghost use Rattle.closure.specs.Setting.{Fits};
+
+// A fixed-point node: its number and children, whether it is of every path, and where its levels lie.
+pub struct Fixpoint {
+    pub node: usize,
+    pub a: usize,
+    pub b: usize,
+    pub every: bool,
+    pub base: usize,
+}
+
+fn level_row(rows: &[u32], words: &[u32], n: usize, x: Fixpoint, m: usize) -> Row
+    requires { ⌜ Fits n x (now rows) (now words) ⌝ }
+    requires { ⌜ m ≤ n ⌝ }
+    ensures { λ r. ⌜ r ≡ levelAt n x m (memory (now (rows .entry)) (now (words .entry))) ⌝ }
+{
+    if m == 0 {
+        return row_at(rows, 64 + 2 * x.b);
+    }
+    if m == n {
+        return row_at(rows, 64 + 2 * x.node);
+    }
+    row_at(words, x.base + 2 * (m - 1))
+}
+
+fn add_level(rows: &mut [u32], words: &mut [u32], n: usize, x: Fixpoint, m: usize, r: Row) -> Report
+    requires { ⌜ Fits n x (now rows) (now words) ⌝ }
+    requires { ⌜ m ≤ n ⌝ }
+    ensures { λ q. ⌜ stepped (now (rows .exit)) (now (words .exit)) q ≡ addLevel n x m r (memory (now (rows .entry)) (now (words .entry))) ⌝ }
+{
+    if m == 0 {
+        return add(rows, 64 + 2 * x.b, r);
+    }
+    if m == n {
+        return add(rows, 64 + 2 * x.node, r);
+    }
+    add(words, x.base + 2 * (m - 1), r)
+}
+
+// What is known around level m + 1, joined: the level, a and b, and N over the level below.
+fn joined_at(
+    targets: &[u32],
+    rows: &[u32],
+    words: &[u32],
+    n: usize,
+    x: Fixpoint,
+    m: usize,
+    below: Row,
+) -> Joined
+    requires { ⌜ Fits n x (now rows) (now words) ⌝ }
+    requires { ⌜ (m < n) × ((n ≤ 32) × (length (now targets) ≡ 32)) ⌝ }
+    ensures { λ r. ⌜ r ≡ joinedAt (now (targets .entry)) n x m below (memory (now (rows .entry)) (now (words .entry))) ⌝ }
+{
+    let every = x.every;
+    let up = turn(every, ahead(targets, rows, n, turn(every, below)));
+    let level = level_row(rows, words, n, x, m + 1);
+    let a = row_at(rows, 64 + 2 * x.a);
+    let b = row_at(rows, 64 + 2 * x.b);
+    join_release(level, a, b, up)
+}
+
+// Adds what the join gives to the level, a and b.
+fn add_joined(
+    rows: &mut [u32],
+    words: &mut [u32],
+    n: usize,
+    x: Fixpoint,
+    m: usize,
+    j: Joined,
+) -> Report
+    requires { ⌜ Fits n x (now rows) (now words) ⌝ }
+    requires { ⌜ (m < n) × (n ≤ 32) ⌝ }
+    ensures { λ q. ⌜ stepped (now (rows .exit)) (now (words .exit)) q ≡ addJoined (now (rows .entry)) n x m j (memory (now (rows .entry)) (now (words .entry))) ⌝ }
+{
+    let start = Report {
+        changed: false,
+        fails: j.fails,
+    };
+    let first = both(start, add_level(rows, words, n, x, m + 1, j.level));
+    let second = both(first, add(rows, 64 + 2 * x.a, j.a));
+    both(second, add(rows, 64 + 2 * x.b, j.b))
+}
+
+// Back from N to the steps and the level below.
+fn level_back(
+    targets: &[u32],
+    rows: &mut [u32],
+    words: &mut [u32],
+    n: usize,
+    x: Fixpoint,
+    m: usize,
+    ahead: Row,
+    below: Row,
+) -> Report
+    requires { ⌜ Fits n x (now rows) (now words) ⌝ }
+    requires { ⌜ (m < n) × ((n ≤ 32) × (length (now targets) ≡ 32)) ⌝ }
+    ensures { λ q. ⌜ stepped (now (rows .exit)) (now (words .exit)) q ≡ goBack (now (targets .entry)) n (x .every) ahead below (addLevel n x m) (memory (now (rows .entry)) (now (words .entry))) ⌝ }
+{
+    let every = x.every;
+    let k = go_back(targets, rows, n, turn(every, ahead), turn(every, below));
+    both(
+        k.report,
+        add_level(rows, words, n, x, m, turn(every, k.end)),
+    )
+}
+
+// Level m + 1 over level m: G = a or N, the level = b and G.
+fn level_step(
+    targets: &[u32],
+    rows: &mut [u32],
+    words: &mut [u32],
+    n: usize,
+    x: Fixpoint,
+    m: usize,
+) -> Report
+    requires { ⌜ Fits n x (now rows) (now words) ⌝ }
+    requires { ⌜ (m < n) × ((n ≤ 32) × (length (now targets) ≡ 32)) ⌝ }
+    ensures { λ q. ⌜ stepped (now (rows .exit)) (now (words .exit)) q ≡ levelStep (now (targets .entry)) n x m (memory (now (rows .entry)) (now (words .entry))) ⌝ }
+{
+    let below = level_row(rows, words, n, x, m);
+    let j = joined_at(targets, rows, words, n, x, m, below);
+    let first = add_joined(rows, words, n, x, m, j);
+    both(
+        first,
+        level_back(targets, rows, words, n, x, m, j.ahead, below),
+    )
+}
+
+// All levels of a node, upward or downward.
+pub fn levels_step(
+    targets: &[u32],
+    rows: &mut [u32],
+    words: &mut [u32],
+    n: usize,
+    x: Fixpoint,
+    down: bool,
+) -> Report
+    requires { ⌜ Fits n x (now rows) (now words) ⌝ }
+    requires { ⌜ (n ≤ 32) × (length (now targets) ≡ 32) ⌝ }
+    ensures { λ q. ⌜ stepped (now (rows .exit)) (now (words .exit)) q ≡ levelsFrom (now (targets .entry)) n x down n (memory (now (rows .entry)) (now (words .entry))) ⌝ }
+{
+    let mut report = Report {
+        changed: false,
+        fails: false,
+    };
+    let mut k = 0;
+    while k < n {
+        let m = if down { n - 1 - k } else { k };
+        report = both(report, level_step(targets, rows, words, n, x, m));
+        k += 1;
+    }
+    report
+}

@@ -1,0 +1,15 @@
+// The closure of a set of literals, by unit propagation over rows of machine words.
+mod ahead;
+mod join;
+mod kept;
+mod level;
+mod net;
+mod node;
+mod row;
+mod sweep;
+
+pub use net::Net;
+pub use row::Report;
+pub use row::Row;
+pub use sweep::Closure;
+pub use sweep::close;

@@ -1,0 +1,155 @@
+// The rules of a node, by its kind.
+use crate::ahead::ahead;
+use crate::ahead::go_back;
+use crate::level::Fixpoint;
+use crate::level::levels_step;
+use crate::row::Report;
+use crate::row::Row;
+use crate::row::add;
+use crate::row::both;
+use crate::row::row_at;
+use crate::row::turn;
+use table::Node;
+ghost use mathlib.Core.Path.{_≡_};
+ghost use mathlib.Core.Bool.{true, cond};
+ghost use mathlib.Core.List.{List};
+ghost use lib.Dec.{eqb};
+ghost use Prim.Native.Nat.{ℕ, _+_, _*_, _-_, _≤_, _<_};
+ghost use lib.ListN.{length, getD};
+ghost use Rattle.ctl.specs.Rule.{operatorOf};
+ghost use Rattle.closure.specs.Rules.{constantRow, andOutput, andInput};
+ghost use Rattle.closure.specs.Sweep.{memory, stepped, sameStep, bothStep, nextStep, nodeStep};
+
+// Of n states, those of a set true and the others false.
+fn constant_row(n: usize, set: u32) -> Row
+    ensures { λ r. ⌜ r ≡ constantRow n set ⌝ }
+{
+    Row {
+        yes: set,
+        no: sets::below(n) & !set,
+    }
+}
+
+// One input: what is known passes both ways.
+fn same_step(rows: &mut [u32], i: usize, same: bool, a: usize) -> Report
+    requires { ⌜ (i < 32) × ((a < 32) × (length (now rows) ≡ 130)) ⌝ }
+    ensures { λ q. ⌜ ((w : List ℕ) → stepped (now (rows .exit)) w q ≡ sameStep i same a (memory (now (rows .entry)) w)) ⌝ }
+{
+    let x = row_at(rows, 64 + 2 * a);
+    let first = add(rows, 64 + 2 * i, turn(same, x));
+    let g = row_at(rows, 64 + 2 * i);
+    both(first, add(rows, 64 + 2 * a, turn(same, g)))
+}
+
+fn and_output(g: Row, a: Row, b: Row) -> Row
+    ensures { λ r. ⌜ r ≡ andOutput g a b ⌝ }
+{
+    Row {
+        yes: g.yes | a.yes & b.yes,
+        no: g.no | (a.no | b.no),
+    }
+}
+
+fn and_input(g: Row, other: Row) -> Row
+    ensures { λ r. ⌜ r ≡ andInput g other ⌝ }
+{
+    Row {
+        yes: g.yes,
+        no: g.no & other.yes,
+    }
+}
+
+// AND of two inputs; OR is its dual.
+fn both_step(rows: &mut [u32], i: usize, same: bool, a: usize, b: usize) -> Report
+    requires { ⌜ (i < 32) × ((a < 32) × ((b < 32) × (length (now rows) ≡ 130))) ⌝ }
+    ensures { λ q. ⌜ ((w : List ℕ) → stepped (now (rows .exit)) w q ≡ bothStep i same a b (memory (now (rows .entry)) w)) ⌝ }
+{
+    let x = turn(same, row_at(rows, 64 + 2 * a));
+    let y = turn(same, row_at(rows, 64 + 2 * b));
+    let g = and_output(turn(same, row_at(rows, 64 + 2 * i)), x, y);
+    let first = add(rows, 64 + 2 * i, turn(same, g));
+    let second = both(first, add(rows, 64 + 2 * a, turn(same, and_input(g, y))));
+    both(second, add(rows, 64 + 2 * b, turn(same, and_input(g, x))))
+}
+
+// AND or OR of a and b, which may be one node: then the literal that stands twice counts once.
+fn pair_step(rows: &mut [u32], i: usize, same: bool, a: usize, b: usize) -> Report
+    requires { ⌜ (i < 32) × ((a < 32) × ((b < 32) × (length (now rows) ≡ 130))) ⌝ }
+    ensures { λ q. ⌜ ((w : List ℕ) → stepped (now (rows .exit)) w q ≡ cond (eqb a b) (sameStep i true a (memory (now (rows .entry)) w)) (bothStep i same a b (memory (now (rows .entry)) w))) ⌝ }
+{
+    if a == b {
+        return same_step(rows, i, true, a);
+    }
+    both_step(rows, i, same, a, b)
+}
+
+// AX; EX is its dual.
+fn next_step(targets: &[u32], rows: &mut [u32], n: usize, i: usize, every: bool, a: usize) -> Report
+    requires { ⌜ (i < 32) × ((a < 32) × (length (now rows) ≡ 130)) ⌝ }
+    requires { ⌜ (n ≤ 32) × (length (now targets) ≡ 32) ⌝ }
+    ensures { λ q. ⌜ ((w : List ℕ) → stepped (now (rows .exit)) w q ≡ nextStep (now (targets .entry)) n i every a (memory (now (rows .entry)) w)) ⌝ }
+{
+    let end = turn(every, row_at(rows, 64 + 2 * a));
+    let up = turn(every, ahead(targets, rows, n, end));
+    let first = add(rows, 64 + 2 * i, up);
+    let g = turn(every, row_at(rows, 64 + 2 * i));
+    let k = go_back(targets, rows, n, g, end);
+    both(
+        first,
+        both(k.report, add(rows, 64 + 2 * a, turn(every, k.end))),
+    )
+}
+
+pub fn node_step(
+    table: &[u8],
+    targets: &[u32],
+    rows: &mut [u32],
+    words: &mut [u32],
+    n: usize,
+    base: usize,
+    i: usize,
+    x: Node,
+    down: bool,
+) -> Report
+    requires { ⌜ (i < 32) × ((x .a < 32) × ((x .b < 32) × (length (now rows) ≡ 130))) ⌝ }
+    requires { ⌜ (n ≤ 32) × (length (now targets) ≡ 32) ⌝ }
+    requires { ⌜ (8 ≤ x .kind → base + 2 * (n - 1) ≤ length (now words)) ⌝ }
+    ensures { λ q. ⌜ ((bases : List ℕ) → getD bases i 0 ≡ base → stepped (now (rows .exit)) (now (words .exit)) q ≡ nodeStep (now (table .entry)) (now (targets .entry)) bases n down i (operatorOf x) (memory (now (rows .entry)) (now (words .entry)))) ⌝ }
+{
+    let kind = x.kind;
+    let a = x.a;
+    let b = x.b;
+    match kind {
+        1 => add(rows, 64 + 2 * i, constant_row(n, sets::below(n))),
+        2 => {
+            let set = table::labelled_states(table::states_part(table), n, a);
+            add(rows, 64 + 2 * i, constant_row(n, set))
+        }
+        3 => same_step(rows, i, false, a),
+        4 => pair_step(rows, i, true, a, b),
+        5 => pair_step(rows, i, false, a, b),
+        6 => next_step(targets, rows, n, i, true, a),
+        7 => next_step(targets, rows, n, i, false, a),
+        8 => {
+            let x = Fixpoint {
+                node: i,
+                a: a,
+                b: b,
+                every: true,
+                base: base,
+            };
+            levels_step(targets, rows, words, n, x, down)
+        }
+        9 => {
+            let x = Fixpoint {
+                node: i,
+                a: a,
+                b: b,
+                every: false,
+                base: base,
+            };
+            levels_step(targets, rows, words, n, x, down)
+        }
+        _ => add(rows, 64 + 2 * i, constant_row(n, 0)),
+    }
+}

@@ -1,0 +1,77 @@
+// A row: what is known of one kind of variable, a bit for each state.
+ghost use mathlib.Core.Path.{_≡_};
+ghost use Prim.Native.Nat.{_+_, _<_};
+ghost use lib.ListN.{length};
+ghost use Rattle.closure.specs.Row.{turned, only, without};
+ghost use Rattle.closure.specs.Memory.{rowAt, joined, reportOf, bothReports};
+
+// The states where the variable is known true, and those where it is known false.
+pub struct Row {
+    pub yes: u32,
+    pub no: u32,
+}
+
+// What a rule did: whether it added a bit, and whether something is now known both ways.
+pub struct Report {
+    pub changed: bool,
+    pub fails: bool,
+}
+
+// The row itself, or its dual, known true and known false exchanged.
+pub fn turn(same: bool, r: Row) -> Row
+    ensures { λ x. ⌜ x ≡ turned same r ⌝ }
+{
+    if same {
+        return r;
+    }
+    Row {
+        yes: r.no,
+        no: r.yes,
+    }
+}
+
+pub fn both(a: Report, b: Report) -> Report
+    ensures { λ r. ⌜ r ≡ bothReports a b ⌝ }
+{
+    Report {
+        changed: a.changed | b.changed,
+        fails: a.fails | b.fails,
+    }
+}
+
+// Whether the set has exactly one member.
+pub fn is_only(set: u32) -> bool
+    ensures { λ r. ⌜ r ≡ only set ⌝ }
+{
+    if set == 0 {
+        return false;
+    }
+    sets::remove(set, sets::lowest(set)) == 0
+}
+
+pub fn row_at(words: &[u32], at: usize) -> Row
+    requires { ⌜ at + 1 < length (now words) ⌝ }
+    ensures { λ r. ⌜ r ≡ rowAt (now (words .entry)) at ⌝ }
+{
+    Row {
+        yes: words[at],
+        no: words[at + 1],
+    }
+}
+
+// Adds what a row knows to the row at a place.
+pub fn add(words: &mut [u32], at: usize, x: Row) -> Report
+    requires { ⌜ at + 1 < length (now words) ⌝ }
+    ensures { λ r. ⌜ r ≡ reportOf (now (words .entry)) at x ⌝ }
+    ensures { λ _. ⌜ now (words .exit) ≡ joined (now (words .entry)) at x ⌝ }
+{
+    let old = row_at(words, at);
+    let yes = old.yes | x.yes;
+    let no = old.no | x.no;
+    words[at] = yes;
+    words[at + 1] = no;
+    Report {
+        changed: yes != old.yes || no != old.no,
+        fails: yes & no != 0,
+    }
+}
