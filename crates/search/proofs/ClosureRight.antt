@@ -11,18 +11,14 @@ use Rattle.circuit.specs.Logic.{Literal}
 use Rattle.circuit.specs.Variables.{variableCount}
 use Rattle.closure.specs.Closure.{closure}
 use Rattle.closure.specs.Numbered.{numberedClauses}
-use Rattle.closure.proofs.Given.{Within, Inside, Consistent}
+use Rattle.closure.proofs.Given.{Within, Inside}
 use Rattle.closure.proofs.Computed.{held-forced, clash-fails}
 use Rattle.closure.proofs.Grow.{closure-grows, closure-keeps, consistent-more, within-more}
+use Rattle.search.specs.Stands.{Fine}
 use Rattle.search.proofs.Needs.{ClosureIsRight}
 use Rattle.closure.proofs.Places.{steps-fit, numbered-inside}
 use Rattle.search.proofs.RepairSound.{repair-no-fail, repair-forced}
 use Rattle.search.proofs.SettledRepair.{settled-repair}
-
--- the literals may be chosen: they are of steps, and no two of them contradict each other
-pub record Fine (e : ℕ) (P : List (Literal ℕ)) : Type 0 where
-  pub consistent : Consistent P
-  pub within : Within e P
 
 -- the closure is right for the repairs of the table
 pub closure-is-right : (T : Table) → Wellformed T

@@ -4,20 +4,19 @@ use native.Mathlib.Omega.{arith}
 use mathlib.Core.Path.{_≡_, refl, sym, ap, subst, _∙_}
 use mathlib.Core.Bool.{Bool, true, false, false≢true}
 use mathlib.Core.Logic.{_⊎_, inl, inr, ⊎-elim, ⊎-map}
-use mathlib.Core.List.{List, map, List·Memᴰ, Memᴰ·map, Memᴰ·of-map}
+use mathlib.Core.List.{List, map, List·Memᴰ, Memᴰ·of-map}
 use lib.Dec.{eqb}
 use lib.ListN.{length}
 use Rattle.table.specs.Table.{Table}
 use Rattle.table.specs.Facts.{Wellformed}
 use Rattle.ctl.specs.Kept.{IsList, Repair}
-use Rattle.circuit.specs.Logic.{Literal, pos, neg, opposite, Makes, Satisfies}
+use Rattle.circuit.specs.Logic.{Literal, pos, neg, Makes, Satisfies}
 use Rattle.circuit.specs.Variables.{Var, variables, variableCount}
 use Rattle.circuit.specs.Clauses.{clauses}
-use Rattle.circuit.proofs.Lists.{each-map}
 use Rattle.circuit.proofs.Covered.{clause-variables}
-use Rattle.circuit.proofs.Settled.{Closed, variables-settled}
+use Rattle.circuit.proofs.Settled.{variables-settled}
 use Rattle.circuit.proofs.Models.{Agrees, model-is-repair}
-use Rattle.closure.specs.Closure.{Forced, unit, Mark, Marks, unknown, known, markAt, isKnown, marked, closure}
+use Rattle.closure.specs.Closure.{Forced, Mark, Marks, unknown, known, markAt, isKnown, marked, closure}
 use Rattle.closure.specs.Numbered.{place, numberedLiteral, numberedClauses}
 use Rattle.search.specs.TableSearch.{bitOf, bytesOf}
 use Rattle.closure.proofs.Forced.{Occurs, settled-models}
@@ -27,21 +26,10 @@ use Rattle.closure.proofs.Computed.{held-forced, forced-held}
 use Rattle.search.proofs.Agree.{length-bytesOf, getD-bytesOf}
 use Rattle.closure.proofs.Places.{place-step, numbered-inside, numbered-nonempty}
 use Rattle.closure.proofs.Models.{onVariables, numbered-model}
+use Rattle.search.proofs.ByNumber.{ByNumber, forced-numbered}
 use Rattle.search.proofs.RepairSound.{bit-sign}
 
 -- ---- literals of variables, by their numbers
-
--- the numbered literal is in S
-abbrev ByNumber : Table → (Literal ℕ → Type 0) → Literal Var → Type 0
-ByNumber T S l = S (numberedLiteral T l)
-
--- what the numbered clauses force is closed under the unit rule for the clauses
-forced-numbered : (T : Table) (P : Literal ℕ → Type 0) → Closed (clauses T) (ByNumber T (Forced (numberedClauses T) P))
-unfolding numberedClauses
-forced-numbered T P C c l h alone =
-    unit (map (numberedLiteral T) C) (Memᴰ·map (map (numberedLiteral T)) c) (Memᴰ·map (numberedLiteral T) h)
-    (each-map (λ k. ¬ (k ≡ numberedLiteral T l) → Forced (numberedClauses T) P (opposite k)) (numberedLiteral T) C
-    (λ k m other. alone k m (λ e. other (ap (numberedLiteral T) e))))
 
 -- a number that stands in a numbered clause is that of a variable of the table
 occurs-place : (T : Table) → Wellformed T → (n : ℕ) → Occurs n (numberedClauses T)

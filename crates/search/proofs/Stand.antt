@@ -15,7 +15,7 @@ use Rattle.search.proofs.Agree.{length-bytesOf, getD-bytesOf, member-no
 use Rattle.search.proofs.Needs.{ClosureIsRight}
 
 -- a known mark says what it knows
-known-of : (m : Mark) → isKnown m ≡ true → (x : Bool) × (m ≡ known x)
+pub known-of : (m : Mark) → isKnown m ≡ true → (x : Bool) × (m ≡ known x)
 known-of unknown i = absurd (false≢true i)
 known-of (known x) i = (x, refl)
 

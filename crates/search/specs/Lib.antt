@@ -1,3 +1,7 @@
 pub mod Search
 pub mod TableSearch
 pub mod Right
+pub mod Counted
+pub mod Answer
+pub mod StepRows
+pub mod Stands

@@ -1,0 +1,64 @@
+-- The words of the step rows, and what one step more changes in them.
+use Prim.Native.Nat.{ℕ, _^_, _<_}
+use mathlib.Core.Path.{_≡_, refl, sym, ap, _∙_}
+use mathlib.Core.Bool.{Bool, true, false, _||_, false≢true, and-eq-true-iff, or-eq-true-iff}
+use mathlib.Core.Logic.{_⊎_, inl, inr, Or·inr}
+use mathlib.Core.List.{List}
+use native.Mathlib.Decide.{decLt}
+use native.Mathlib.Omega.{arith}
+use borrow.Author.Tests.{lt-ltb, eq-eqb, eqb-true}
+use lib.Dec.{eqb, ltb}
+use lib.ListN.{getD}
+use Rattle.sets.specs.Member.{member, setOf}
+use Rattle.sets.proofs.Laws.{member-past}
+use Rattle.sets.proofs.SetOf.{member-setOf}
+use Rattle.closure.specs.Row.{known}
+use Rattle.closure.specs.Memory.{rowAt, stepPlace}
+use Rattle.search.specs.StepRows.{wordOf}
+
+-- those of the states below 32 are the first 64
+pub word-below : (sign : Bool) (s : ℕ) → s < 32 → wordOf sign s < 64
+word-below true s h = omega arith
+word-below false s h = omega arith
+
+-- what a row knows of a state is a bit of one of its words
+pub word-bit : (rows : List ℕ) (sign : Bool) (s t : ℕ) → member (getD rows (wordOf sign s) 0) t ≡ known (rowAt rows (stepPlace s)) sign t
+word-bit rows true s t = refl
+word-bit rows false s t = refl
+
+-- each word is of one sign and one state
+pub word-apart : (a b : Bool) (s t : ℕ) → wordOf a s ≡ wordOf b t → (a ≡ b) × (s ≡ t)
+word-apart true true s t e = (refl, omega arith)
+word-apart true false s t e = absurd (omega arith)
+word-apart false true s t e = absurd (omega arith)
+word-apart false false s t e = (refl, omega arith)
+
+-- a member of a word is below 32
+pub member-below : (w s : ℕ) → w < 2 ^ 32 → member w s ≡ true → s < 32
+member-below w s h e = go (decLt s 32)
+  where
+    go : Dec (s < 32) → s < 32
+    go (yes l) = l
+    go (no l) = absurd (false≢true (sym (member-past 32 w s h (omega arith)) ∙ e))
+
+-- ---- a set with one member more
+
+module _ (w to : ℕ) where
+  abbrev pub more : ℕ
+  more = setOf 32 (λ t. member w t || eqb t to)
+
+  pub more-only : (t : ℕ) → member more t ≡ true → (member w t ≡ true) ⊎ (t ≡ to)
+  more-only t e = go (member w t) refl (and-eq-true-iff (ltb t 32) (member w t || eqb t to) .0 (sym (member-setOf 32 _ t) ∙ e) .1)
+    where
+      go : (b : Bool) → member w t ≡ b → member w t || eqb t to ≡ true → (member w t ≡ true) ⊎ (t ≡ to)
+      go true q h = inl q
+      go false q h = inr (eqb-true t to (sym (ap (λ (b : Bool). b || eqb t to) q) ∙ h))
+
+  more-has : (t : ℕ) → t < 32 → member w t || eqb t to ≡ true → member more t ≡ true
+  more-has t h e = member-setOf 32 _ t ∙ and-eq-true-iff (ltb t 32) (member w t || eqb t to) .1 (lt-ltb t 32 h, e)
+
+  pub more-keeps : w < 2 ^ 32 → (t : ℕ) → member w t ≡ true → member more t ≡ true
+  more-keeps small t e = more-has t (member-below w t small e) (ap (λ (b : Bool). b || eqb t to) e)
+
+  pub more-new : to < 32 → member more to ≡ true
+  more-new h = more-has to h (or-eq-true-iff (member w to) (eqb to to) .1 (Or·inr (eq-eqb to to refl)))

@@ -1,0 +1,80 @@
+-- The walk from the lowest unsettled step: settled steps are passed, and a step is chosen.
+use Prim.Native.Nat.{ℕ, zero, suc, _+_, _≤_, _<_}
+use native.Mathlib.Numerals.{add-one}
+use native.Mathlib.Omega.{arith}
+use mathlib.Core.Path.{_≡_, refl, sym, ap, _∙_}
+use mathlib.Core.Bool.{Bool, true, false}
+use mathlib.Core.List.{List, [], _∷_}
+use lib.Dec.{eqb}
+use lib.ListN.{length, drop-of-length-le}
+use lib.Seq.{drop-cons}
+use Rattle.table.specs.Table.{Table}
+use Rattle.ctl.specs.Levels.{below}
+use Rattle.ctl.proofs.Tabulate.{length-tabulate, getD-tabulate}
+use Rattle.circuit.specs.Logic.{Literal, pos}
+use Rattle.closure.specs.Closure.{Marks, markAt, isKnown, Progress, clash, marked}
+use Rattle.search.specs.Search.{Outcome, found, none, spent, capped, choose, walk}
+use Rattle.search.specs.Stands.{closureOf, stepsFrom, walkFrom, searchFrom, struckFrom}
+use Rattle.search.proofs.Step.{chosen, orElse, walk-known, walk-unknown}
+
+module _ (T : Table) where
+  -- the steps from j on: j, and those after it
+  steps-cons : (j : ℕ) → j < length (T .steps) → stepsFrom T j ≡ j ∷ stepsFrom T (suc j)
+  steps-cons j h =
+      drop-cons (below (length (T .steps))) j 0 (rw length-tabulate h)
+      ∙ ap (λ (k : ℕ). k ∷ stepsFrom T (suc j)) (getD-tabulate (length (T .steps)) (λ k. k) j 0 h)
+
+  -- none are left past the last
+  steps-none : stepsFrom T (length (T .steps)) ≡ []
+  steps-none = drop-of-length-le (below (length (T .steps))) {i = length (T .steps)} (rw length-tabulate (omega arith))
+
+  module _ (cap : ℕ) (P : List (Literal ℕ)) (m : Marks) (made : ℕ) where
+    -- settled steps are passed
+    pass : (k : ℕ) → k ≤ length (T .steps) → ((i : ℕ) → i < k → isKnown (markAt m i) ≡ true) → walkFrom T cap 0 P m made ≡ walkFrom T cap k P m made
+    pass zero h settled = refl
+    pass (suc k) h settled =
+        pass k (omega arith) (λ i l. settled i (omega arith))
+        ∙ ap (λ (js : List ℕ). walk (capped cap) (closureOf T) js P m made) (steps-cons k h)
+        ∙ walk-known (capped cap) (closureOf T) k (stepsFrom T (suc k)) P m made (settled k (omega arith))
+
+    pub walk-passed : (i k : ℕ) → i ≤ k → k ≤ length (T .steps) → ((x : ℕ) → x < k → isKnown (markAt m x) ≡ true)
+        → walkFrom T cap i P m made ≡ walkFrom T cap k P m made
+    walk-passed i k l h settled = sym (pass i (omega arith) (λ x lt. settled x (omega arith))) ∙ pass k h settled
+
+    -- where all are settled, m is found
+    pub walk-settled : (i : ℕ) → i ≤ length (T .steps) → ((x : ℕ) → x < length (T .steps) → isKnown (markAt m x) ≡ true)
+        → walkFrom T cap i P m made ≡ found m made
+    unfolding walk
+    walk-settled i h settled =
+        walk-passed i (length (T .steps)) h (omega arith) settled
+        ∙ ap (λ (js : List ℕ). walk (capped cap) (closureOf T) js P m made) steps-none
+
+    -- an unsettled step is chosen kept and, where that gives none, struck
+    pub walk-unsettled : (j : ℕ) → j < length (T .steps) → isKnown (markAt m j) ≡ false
+        → walkFrom T cap j P m made ≡ orElse (choose (capped cap) (closureOf T) (pos j) P made (walkFrom T cap (suc j))) (struckFrom T cap j P)
+    walk-unsettled j h unsettled-at =
+        ap (λ (js : List ℕ). walk (capped cap) (closureOf T) js P m made) (steps-cons j h)
+        ∙ walk-unknown (capped cap) (closureOf T) j (stepsFrom T (suc j)) P m made unsettled-at
+
+  -- what is searched from P, once its closure is known
+  module _ (cap j : ℕ) (P : List (Literal ℕ)) (made : ℕ) where
+    found-of : Progress → Outcome
+    found-of p = elim p [ clash ↦ none made | marked m new ↦ walkFrom T cap j P m made ]
+
+    pub search-clash : closureOf T P ≡ clash → searchFrom T cap j P made ≡ none made
+    unfolding found-of
+    search-clash e = ap found-of e
+
+    pub search-marked : {m : Marks} {new : Bool} → closureOf T P ≡ marked m new → searchFrom T cap j P made ≡ walkFrom T cap j P m made
+    unfolding found-of
+    search-marked e = ap found-of e
+
+  -- a choice at the cap, and below it
+  module _ (cap j : ℕ) (l : Literal ℕ) (P : List (Literal ℕ)) (made : ℕ) where
+    pub choose-capped : eqb made cap ≡ true → choose (capped cap) (closureOf T) l P made (walkFrom T cap j) ≡ spent made
+    choose-capped e = ap (λ (b : Bool). chosen b (closureOf T (l ∷ P)) (l ∷ P) made (walkFrom T cap j)) e
+
+    pub choose-next : eqb made cap ≡ false → choose (capped cap) (closureOf T) l P made (walkFrom T cap j) ≡ searchFrom T cap j (l ∷ P) (made + 1)
+    choose-next e =
+        ap (λ (b : Bool). chosen b (closureOf T (l ∷ P)) (l ∷ P) made (walkFrom T cap j)) e
+        ∙ ap (searchFrom T cap j (l ∷ P)) (sym (add-one made))

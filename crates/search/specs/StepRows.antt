@@ -1,0 +1,39 @@
+-- The step rows of a closure, as the search reads and writes them.
+use Prim.Native.Nat.{ℕ, _+_}
+use mathlib.Core.Bool.{Bool, true, false, cond, not, _||_}
+use mathlib.Core.List.{List}
+use lib.Dec.{eqb}
+use lib.ListN.{length, getD, set}
+use Rattle.sets.specs.Member.{member, setOf}
+use Rattle.table.specs.declared.record.Step.{Step}
+use Rattle.table.specs.Table.{Table, stepAt}
+use Rattle.ctl.specs.Levels.{tabulate}
+use Rattle.closure.specs.Row.{known}
+use Rattle.closure.specs.Memory.{rowAt, stepPlace}
+
+-- the word of the steps out of s that are known with this sign
+abbrev pub wordOf : Bool → ℕ → ℕ
+wordOf true s = stepPlace s
+wordOf false s = stepPlace s + 1
+
+-- whether a step is known with this sign, and whether it is known either way
+abbrev pub stepBit : List ℕ → Bool → Step → Bool
+stepBit rows sign x = known (rowAt rows (stepPlace (x .from))) sign (x .to)
+
+abbrev pub stepSettled : List ℕ → Step → Bool
+stepSettled rows x = stepBit rows true x || stepBit rows false x
+
+module _ (T : Table) (rows : List ℕ) where
+  -- step j is known neither way
+  abbrev pub isUnsettled : ℕ → Bool
+  isUnsettled j = not (stepSettled rows (stepAt T j))
+
+  -- a byte for each step: 1 where it is known kept, else 0
+  abbrev pub keptBytes : List ℕ
+  keptBytes = tabulate (length (T .steps)) (λ j. cond (stepBit rows true (stepAt T j)) 1 0)
+
+  -- the rows with step j known, with this sign
+  abbrev pub withStep : Bool → ℕ → List ℕ
+  withStep sign j =
+      let at : ℕ = wordOf sign (stepAt T j .from) in
+      set rows at (setOf 32 (λ t. member (getD rows at 0) t || eqb t (stepAt T j .to)))

@@ -1,0 +1,46 @@
+// The search of a table, from nothing chosen.
+use crate::choices::Choices;
+use crate::outcome::Outcome;
+use crate::reach::Reached;
+use crate::reach::reach;
+use crate::tries::kept;
+use crate::words::zero;
+use closure::Net;
+ghost use mathlib.Core.Path.{_≡_};
+ghost use Prim.Native.Nat.{ℕ, _≤_};
+ghost use lib.ListN.{length, getD};
+ghost use Rattle.table.specs.Table.{tableOf};
+ghost use Rattle.closure.specs.Memory.{levelTotal};
+ghost use Rattle.closure.specs.Setting.{Setting};
+ghost use Rattle.search.specs.TableSearch.{searchUnder};
+ghost use Rattle.search.specs.Answer.{outcomeOf, listAfter};
+
+// The answer under a cap. A found list is written to the front of `list`; of the words only the first `levels` are used.
+pub fn search_table(
+    table: &[u8],
+    net: Net,
+    targets: &[u32],
+    bases: &[usize],
+    levels: usize,
+    cap: u64,
+    list: &mut [u8],
+    words: &mut [u32],
+) -> Outcome
+    requires { ⌜ Setting (now table) net (now targets) (now bases) ⌝ }
+    requires { ⌜ levels ≡ levelTotal (tableOf (now table)) ⌝ }
+    requires { ⌜ levelTotal (tableOf (now table)) ≤ length (now words) ⌝ }
+    requires { ⌜ length (tableOf (now table) .steps) ≤ length (now list) ⌝ }
+    ensures { λ r. ⌜ r ≡ outcomeOf (searchUnder (tableOf (now (table .entry))) cap) ⌝ }
+    ensures { λ _. ⌜ now (list .exit) ≡ listAfter (tableOf (now (table .entry))) (searchUnder (tableOf (now (table .entry))) cap) (now (list .entry)) ⌝ }
+    ensures { λ _. ⌜ length (now (words .exit)) ≡ length (now (words .entry)) ⌝ }
+    ensures { λ _. ⌜ ((k : ℕ) → levelTotal (tableOf (now (table .entry))) ≤ k → getD (now (words .exit)) k 0 ≡ getD (now (words .entry)) k 0) ⌝ }
+{
+    let part = &mut words[..levels];
+    zero(part);
+    let count = Choices { made: 0, cap };
+    let mut rows = [0u32; 130];
+    match reach(table, net, targets, bases, &mut rows, count, list, part) {
+        Reached::Ended(outcome) => outcome,
+        Reached::Unsettled(j) => kept(table, net, targets, bases, rows, j, count, list, part),
+    }
+}

@@ -1,0 +1,90 @@
+// The step rows of a closure: what is known of each step.
+use table::Step;
+ghost use mathlib.Core.Path.{_≡_};
+ghost use mathlib.Core.List.{_++_};
+ghost use Prim.Native.Nat.{_≤_, _<_};
+ghost use lib.ListN.{length, drop};
+ghost use Rattle.sets.specs.Member.{lowestOf};
+ghost use Rattle.table.specs.declared.refusal.Verdict.the-variants.{Accepted};
+ghost use Rattle.table.specs.Table.{tableOf};
+ghost use Rattle.table.specs.Accept.{tableVerdict};
+ghost use Rattle.search.specs.StepRows.{wordOf, stepBit, stepSettled, isUnsettled, keptBytes, withStep};
+
+// The word of the steps out of s that are kept, or of those that are struck.
+fn word_of(s: usize, kept: bool) -> usize
+    requires { ⌜ s < 32 ⌝ }
+    ensures { λ r. ⌜ r ≡ wordOf kept s ⌝ }
+{
+    if kept {
+        return 2 * s;
+    }
+    2 * s + 1
+}
+
+// Whether the step is known kept, or known struck.
+fn is_known(rows: &[u32], x: Step, kept: bool) -> bool
+    requires { ⌜ (x .from < 32) × (length (now rows) ≡ 130) ⌝ }
+    ensures { λ r. ⌜ r ≡ stepBit (now (rows .entry)) kept x ⌝ }
+{
+    let at = word_of(x.from, kept);
+    sets::contains(rows[at], x.to)
+}
+
+// Whether the step is known either way.
+fn is_settled(rows: &[u32], x: Step) -> bool
+    requires { ⌜ (x .from < 32) × (length (now rows) ≡ 130) ⌝ }
+    ensures { λ r. ⌜ r ≡ stepSettled (now (rows .entry)) x ⌝ }
+{
+    if is_known(rows, x, true) {
+        return true;
+    }
+    is_known(rows, x, false)
+}
+
+// The lowest step that is known neither way, or the number of steps.
+pub fn lowest_unsettled(table: &[u8], rows: &[u32]) -> usize
+    requires { ⌜ (tableVerdict (now table) ≡ Accepted) × (length (now rows) ≡ 130) ⌝ }
+    ensures { λ r. ⌜ r ≡ lowestOf (length (tableOf (now (table .entry)) .steps)) (isUnsettled (tableOf (now (table .entry))) (now (rows .entry))) ⌝ }
+{
+    let c = table::counts_of(table);
+    let e = c.steps;
+    let steps = table::steps_part(table);
+    let mut j = 0;
+    while j < e {
+        let x = table::step_at(steps, j);
+        if !is_settled(rows, x) {
+            return j;
+        }
+        j += 1;
+    }
+    e
+}
+
+// A byte for each step, 1 kept and 0 struck, at the front of the list.
+pub fn write_list(table: &[u8], rows: &[u32], list: &mut [u8])
+    requires { ⌜ (tableVerdict (now table) ≡ Accepted) × (length (now rows) ≡ 130) × (length (tableOf (now table) .steps) ≤ length (now list)) ⌝ }
+    ensures { λ _. ⌜ now (list .exit) ≡ keptBytes (tableOf (now (table .entry))) (now (rows .entry)) ++ drop (length (tableOf (now (table .entry)) .steps)) (now (list .entry)) ⌝ }
+{
+    let c = table::counts_of(table);
+    let e = c.steps;
+    let steps = table::steps_part(table);
+    let mut j = 0;
+    while j < e {
+        let x = table::step_at(steps, j);
+        list[j] = is_known(rows, x, true) as u8;
+        j += 1;
+    }
+}
+
+// The rows with step j kept, or struck.
+pub fn with_step(table: &[u8], rows: [u32; 130], j: usize, kept: bool) -> [u32; 130]
+    requires { ⌜ (tableVerdict (now table) ≡ Accepted) × (j < length (tableOf (now table) .steps)) ⌝ }
+    ensures { λ r. ⌜ r ≡ withStep (tableOf (now (table .entry))) rows kept j ⌝ }
+{
+    let steps = table::steps_part(table);
+    let x = table::step_at(steps, j);
+    let at = word_of(x.from, kept);
+    let mut next = rows;
+    next[at] = sets::insert(rows[at], x.to);
+    next
+}
