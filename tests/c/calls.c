@@ -148,11 +148,189 @@ static void refusals(void)
         }
 }
 
+/* How many entries of each buffer Repair is lent, and what it is to do with them. */
+struct room {
+    size_t list, bytes, words;
+};
+
+struct repaired {
+    unsigned number;
+    uint64_t choices;
+    const uint8_t *list;
+    size_t list_len, variables;
+};
+
+enum { ROOM = 256 };
+
+static struct repaired found(uint64_t choices, const uint8_t *list, size_t list_len, size_t variables)
+{
+    struct repaired wanted = {0, choices, list, list_len, variables};
+    return wanted;
+}
+
+/* None (14) or spent (15). */
+static struct repaired stopped(unsigned number, uint64_t choices, size_t variables)
+{
+    struct repaired wanted = {number, choices, NULL, 0, variables};
+    return wanted;
+}
+
+static struct repaired refused(unsigned number)
+{
+    struct repaired wanted = {number, GUARD32, NULL, 0, 0};
+    return wanted;
+}
+
+/* Repair: the answer, the choices, and every entry of the three buffers and of their guards. */
+static void repair(const char *what, const uint8_t *table, size_t table_len, uint64_t cap, struct room room, struct repaired wanted)
+{
+    uint8_t list[ROOM + 4], bytes[ROOM + 4], list_after[ROOM + 4], bytes_after[ROOM + 4];
+    uint32_t words[ROOM + 4], words_after[ROOM + 4];
+    uint64_t choices[3] = {GUARD32, GUARD32, GUARD32};
+    memset(list, GUARD8, sizeof list);
+    memset(bytes, GUARD8, sizeof bytes);
+    memset(words, GUARD8, sizeof words);
+    memcpy(list_after, list, sizeof list);
+    memcpy(bytes_after, bytes, sizeof bytes);
+    memcpy(words_after, words, sizeof words);
+    for (size_t i = 0; i < wanted.list_len; i++)
+        list_after[2 + i] = wanted.list[i];
+    for (size_t i = 0; i < wanted.variables; i++)
+        bytes_after[2 + i] = 0, words_after[2 + i] = 0;
+    expect(what, fitter_repair(table, table_len, cap, list + 2, room.list, bytes + 2, room.bytes, words + 2, room.words, &choices[1]), wanted.number);
+    expect(what, choices[0] == GUARD32 && choices[1] == wanted.choices && choices[2] == GUARD32, 1);
+    expect(what, memcmp(list, list_after, sizeof list) == 0, 1);
+    expect(what, memcmp(bytes, bytes_after, sizeof bytes) == 0, 1);
+    expect(what, memcmp(words, words_after, sizeof words) == 0, 1);
+}
+
+/* With as much room as needed, with more, and with one entry too few of each buffer. */
+static void repairs_at(const char *what, const uint8_t *table, size_t table_len, uint64_t cap, struct repaired wanted)
+{
+    size_t e = table[1], v = wanted.variables;
+    struct room needed = {e, v, v}, more = {ROOM, ROOM, ROOM}, list = {e - 1, v, v}, bytes = {e, v - 1, v}, words = {e, v, v - 1};
+    repair(what, table, table_len, cap, needed, wanted);
+    repair(what, table, table_len, cap, more, wanted);
+    if (e > 0)
+        repair(what, table, table_len, cap, list, refused(10));
+    repair(what, table, table_len, cap, bytes, refused(10));
+    repair(what, table, table_len, cap, words, refused(10));
+}
+
+/* So many steps among 12 states, ten at least out of each, and the rule "true": every step is chosen, and kept. */
+static size_t many_steps(uint8_t *table, unsigned steps)
+{
+    const uint8_t counts[4] = {12, (uint8_t)steps, 1, 0}, node[3] = {1, 0, 0};
+    size_t at = 4;
+    memcpy(table, counts, 4);
+    for (unsigned s = 0; s < 12; s++) {
+        table[at++] = s == 0;
+        table[at++] = 0;
+        table[at++] = 0;
+    }
+    for (unsigned j = 0; j < steps; j++) {
+        table[at++] = (uint8_t)(j % 12);
+        table[at++] = (uint8_t)(j / 12);
+    }
+    memcpy(table + at, node, 3);
+    return at + 3;
+}
+
+static void repairs(void)
+{
+    static const uint8_t kept[4] = {1, 1, 0, 1}, first[2] = {1, 0}, loop[1] = {1};
+    static const uint8_t starts[17] = {2, 2, 1, 1, 1, 1, 0, 1, 0, 0, 0, 0, 1, 1, 2, 0, 0};
+    static const uint8_t dead_end[15] = {2, 1, 1, 0, 1, 0, 0, 0, 0, 0, 0, 1, 1, 0, 0};
+    static const uint8_t no_step[10] = {1, 0, 1, 0, 1, 0, 0, 1, 0, 0};
+    repairs_at("repair the sheet", sample, 36, 1000000, found(4, kept, 4, 100));
+    repairs_at("repair the sheet, greatest cap", sample, 36, UINT64_MAX, found(4, kept, 4, 100));
+    repairs_at("repair the sheet, cap 4", sample, 36, 4, found(4, kept, 4, 100));
+    for (uint64_t cap = 0; cap < 4; cap++)
+        repairs_at("repair the sheet, cap below 4", sample, 36, cap, stopped(15, cap, 100));
+
+    /* p0 releases p1, at one state with a loop */
+    for (uint8_t label = 0; label < 4; label++) {
+        const uint8_t release[18] = {1, 1, 3, 2, 1, label, 0, 0, 0, 2, 0, 0, 2, 1, 0, 8, 0, 1};
+        repairs_at("repair a release", release, 18, 0, label < 2 ? stopped(14, 0, 9) : found(0, loop, 1, 9));
+    }
+    repairs_at("repair with two initial states", starts, 17, 0, found(0, first, 2, 6));
+    repairs_at("repair a dead end", dead_end, 15, 0, stopped(14, 0, 5));
+    repairs_at("repair with no step", no_step, 10, 0, stopped(14, 0, 2));
+
+    /* No list at all is lent where there is no step. */
+    uint8_t bytes[2] = {1, 1};
+    uint32_t words[2] = {1, 1};
+    uint64_t choices = 1;
+    expect("repair with no list", fitter_repair(no_step, 10, 0, NULL, 0, bytes, 2, words, 2, &choices), 14);
+    expect("repair with no list: choices", (unsigned)choices, 0);
+
+    uint8_t table[301], all[128];
+    memset(all, 1, sizeof all);
+    struct room room = {ROOM, ROOM, ROOM};
+    size_t len = many_steps(table, 128);
+    repairs_at("repair 128 steps", table, len, 128, found(128, all, 128, 152));
+    repairs_at("repair 128 steps, cap 127", table, len, 127, stopped(15, 127, 152));
+    len = many_steps(table, 129);
+    repair("repair 129 steps", table, len, 128, room, refused(3));
+}
+
+/* Repair gives the refusal's number whatever is lent, and touches nothing. */
+static void repair_damaged(const char *what, const uint8_t *table, size_t table_len, unsigned wanted)
+{
+    struct room all = {ROOM, ROOM, ROOM}, none = {0, 0, 0};
+    repair(what, table, table_len, UINT64_MAX, all, refused(wanted));
+    repair(what, table, table_len, 0, none, refused(wanted));
+}
+
+/* The sample with one byte changed. */
+static void repair_changed(const char *what, size_t at, unsigned value, unsigned wanted)
+{
+    uint8_t table[36];
+    memcpy(table, sample, 36);
+    table[at] = (uint8_t)value;
+    repair_damaged(what, table, 36, wanted);
+}
+
+static void repair_refusals(void)
+{
+    static const uint8_t list[4] = {1, 1, 0, 1};
+    uint8_t longer[37];
+    memcpy(longer, sample, 36);
+    longer[36] = 0;
+    repair_damaged("repair an empty table", NULL, 0, 2);
+    repair_damaged("repair 3 bytes", sample, 3, 2);
+    repair_damaged("repair a byte short", sample, 35, 2);
+    repair_damaged("repair a byte long", longer, 37, 2);
+    repair_changed("repair 33 states", 0, 33, 3);
+    repair_changed("repair 4 states", 0, 4, 2);
+    repair_changed("repair initial 2", 4, 2, 4);
+    repair_changed("repair a label bit too high", 8, 2, 4);
+    repair_changed("repair no initial state", 4, 0, 5);
+    repair_changed("repair a step from nowhere", 13, 3, 6);
+    repair_changed("repair a step to nowhere", 20, 3, 6);
+    repair_changed("repair a step given twice", 18, 0, 7);
+    repair_changed("repair kind 10", 21, 10, 8);
+    repair_changed("repair a child not lower", 31, 3, 8);
+
+    /* Any byte changed: what the judge refuses of the table, Repair refuses with the same number. */
+    for (unsigned at = 0; at < 36; at++)
+        for (unsigned value = 0; value < 256; value++) {
+            uint8_t table[36];
+            memcpy(table, sample, 36);
+            table[at] = (uint8_t)value;
+            unsigned number = fitter_judge(table, 36, list, 4);
+            if (number >= 2 && number <= 8)
+                repair_damaged("repair with a byte changed", table, 36, number);
+        }
+}
+
 int main(void)
 {
     sheets();
     samples();
     refusals();
+    repairs();
+    repair_refusals();
     printf("c calls: %d checks, %d failures\n", checks, failures);
     return failures != 0;
 }

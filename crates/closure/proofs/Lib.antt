@@ -22,6 +22,7 @@ pub mod NodeSound
 pub mod KeptSound
 pub mod StartSound
 pub mod LevelsFit
+pub mod LevelBases
 pub mod RowMore
 pub mod AndClosed
 pub mod Apart

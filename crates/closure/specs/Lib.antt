@@ -10,3 +10,4 @@ pub mod Advance
 pub mod Closes
 pub mod Sweep
 pub mod Setting
+pub mod Bases

@@ -1,5 +1,6 @@
 // The closure of a set of literals, by unit propagation over rows of machine words.
 mod ahead;
+mod bases;
 mod join;
 mod kept;
 mod level;
@@ -8,6 +9,8 @@ mod node;
 mod row;
 mod sweep;
 
+pub use bases::Bases;
+pub use bases::level_bases;
 pub use net::Net;
 pub use row::Report;
 pub use row::Row;

@@ -14,6 +14,7 @@ use Rattle.ctl.specs.Rule.{Quantifier, every, some, Operator, constant, 
 use Rattle.ctl.specs.Kept.{Next, Kept, Total, Labelled, NodeHolds}
 use Rattle.ctl.specs.Levels.{has, iterate, nextIn, level, levels, released}
 use Rattle.ctl.specs.Labels.{marks, targets, isKept, labelOf, label, marked}
+use Rattle.ctl.specs.Exact.{LabelsAreMeaning}
 use Rattle.ctl.proofs.Tabulate.{length-tabulate, getD-tabulate, getD-tabulate-past}
 use Rattle.ctl.proofs.Stable.{level-length}
 use Rattle.ctl.proofs.Paths.{next-every, next-some, release-falls, release-every, release-some}
@@ -171,8 +172,7 @@ module _ (T : Table) (wf : Wellformed T) (list : List ℕ) (total : Total T list
       operator-mean _ _ _ (of-children T wf i h (λ k l. label-set T wf list k (omega arith))) is))
 
 -- Under a total list, a state is marked for a node just when it is kept and the node holds at it.
-pub labels-are-meaning : (T : Table) → Wellformed T → (list : List ℕ) → Total T list → (i : ℕ) → i < length (T .nodes) → (s : ℕ)
-    → (marked T list i s ≡ true) ↔ (Kept T list s × NodeHolds T list i s)
+pub labels-are-meaning : LabelsAreMeaning
 labels-are-meaning T wf list total i h s = (
   λ e. let k = marked-kept T wf list i h s e in (k, label-mean T wf list total i h s (k .0) (k .1) .0 e),
   λ r. label-mean T wf list total i h s (r .0 .0) (r .0 .1) .1 (r .1),

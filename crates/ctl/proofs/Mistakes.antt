@@ -15,7 +15,7 @@ use Rattle.ctl.specs.Rule.{every, bottomUp, rootIndex}
 use Rattle.ctl.specs.Kept.{Initial, Labelled, IsList, Next, Kept, Repair}
 use Rattle.ctl.specs.Levels.{tabulate, nextIn}
 use Rattle.ctl.specs.Labels.{keptSteps, endsFrom, isKept, labelOf, label, marked}
-use Rattle.ctl.specs.Tests.{isInitialKept, repairVerdict}
+use Rattle.ctl.specs.Tests.{isInitialKept, repairTests}
 use Rattle.ctl.proofs.Meaning.{marked-kept}
 use Rattle.ctl.proofs.Repair.{repair-decided}
 
@@ -73,7 +73,7 @@ abbrev pub both-loops : List ℕ
 both-loops = 1 ∷ 1 ∷ []
 
 -- tests 11 to 13 accept the list that keeps both loops
-pub loops-accepted : repairVerdict loops both-loops ≡ Accepted
+pub loops-accepted : repairTests loops both-loops ≡ Accepted
 unfolding all any tabulate member keptSteps endsFrom bottomUp labelOf label
 loops-accepted = refl
 

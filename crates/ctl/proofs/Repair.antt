@@ -20,7 +20,7 @@ use Rattle.ctl.specs.Rule.{rootIndex}
 use Rattle.ctl.specs.Kept.{Initial, IsList, Kept, Total, NodeHolds, Repair}
 use Rattle.ctl.specs.Rank.{First}
 use Rattle.ctl.specs.Labels.{keptSteps, marked}
-use Rattle.ctl.specs.Tests.{states, isTotal, isInitialKept, keepsInitial, rootMarked, repairVerdict, judgeVerdict}
+use Rattle.ctl.specs.Tests.{states, isTotal, isInitialKept, keepsInitial, rootMarked, repairTests, judgeVerdict}
 use Rattle.ctl.proofs.Tabulate.{all-true, any-true}
 use Rattle.ctl.proofs.Select.{in-below}
 use Rattle.ctl.proofs.Rank.{first-unique}
@@ -126,7 +126,7 @@ is-list T list = Iff·trans (require-accepted _ _) (
 -- ---- repairs
 
 tests-accepted : (T : Table) (list : List ℕ)
-    → (repairVerdict T list ≡ Accepted) ↔ ((isTotal T list ≡ true) × (keepsInitial T list ≡ true) × (rootMarked T list ≡ true))
+    → (repairTests T list ≡ Accepted) ↔ ((isTotal T list ≡ true) × (keepsInitial T list ≡ true) × (rootMarked T list ≡ true))
 tests-accepted T list = (
   λ e.
       let r = then-accepted _ _ .0 e in
@@ -137,7 +137,7 @@ tests-accepted T list = (
 )
 
 -- Tests 11 to 13 accept just the repairs.
-pub repair-decided : (T : Table) → Wellformed T → (list : List ℕ) → IsList T list → (repairVerdict T list ≡ Accepted) ↔ Repair T list
+pub repair-decided : (T : Table) → Wellformed T → (list : List ℕ) → IsList T list → (repairTests T list ≡ Accepted) ↔ Repair T list
 repair-decided T wf list form = Iff·trans (tests-accepted T list) (
   λ r.
       let total = is-total T list .0 (r .0) in
@@ -162,7 +162,7 @@ pub repair-dec : (T : Table) → Wellformed T → (list : List ℕ) → Dec (Rep
 repair-dec T wf list = go (accepted-dec (listVerdict (length (T .steps)) list))
   where
     go : Dec (listVerdict (length (T .steps)) list ≡ Accepted) → Dec (Repair T list)
-    go (yes e) = Dec·of-iff (repair-decided T wf list (is-list T list .0 e)) (accepted-dec (repairVerdict T list))
+    go (yes e) = Dec·of-iff (repair-decided T wf list (is-list T list .0 e)) (accepted-dec (repairTests T list))
     go (no n) = no (λ r. n (is-list T list .1 (r .form)))
 
 -- A table has at most one first repair.

@@ -5,7 +5,7 @@ use mathlib.Core.Path.{_≡_, refl, sym, ap, _∙_}
 use mathlib.Core.Bool.{Bool, true, false, _&&_, _||_, true≢false, false≢true, and-eq-true-iff, or-eq-true-iff}
 use mathlib.Core.Logic.{_↔_, ⊎-elim, Or·inl, Or·inr}
 use mathlib.Core.List.{List, [], _∷_, List·Memᴰ, List·Memᴰ·head, List·Memᴰ·tail, List·Memᴰ·not-nil, List·Memᴰ·cases-cons}
-use lib.ListN.{length, getD, List·getD-eq-default}
+use lib.ListN.{length, getD, take, List·getD-eq-default}
 use Rattle.table.specs.Accept.{all, any}
 use Rattle.ctl.specs.Levels.{tabulate}
 
@@ -26,6 +26,13 @@ module _ {ℓ} {A : Type ℓ} where
   -- no element stands at n or past it
   pub getD-tabulate-past : (n : ℕ) (f : ℕ → A) (s : ℕ) (d : A) → n ≤ s → getD (tabulate n f) s d ≡ d
   getD-tabulate-past n f s d h = List·getD-eq-default (tabulate n f) d (rw length-tabulate h)
+
+  -- the first k of them
+  pub take-tabulate : (k n : ℕ) (f : ℕ → A) → k ≤ n → take k (tabulate n f) ≡ tabulate k f
+  unfolding tabulate
+  take-tabulate zero n f h = refl
+  take-tabulate (suc k) zero f h = absurd (not-suc-le-zero h)
+  take-tabulate (suc k) (suc n) f h = ap (λ (xs : List A). f zero ∷ xs) (take-tabulate k n (λ i. f (suc i)) (le-of-suc-le-suc h))
 
   in-tail : {P : A → Type 0} {x : A} {xs : List A} → (y : A) × List·Memᴰ y xs × P y → (y : A) × List·Memᴰ y (x ∷ xs) × P y
   in-tail r = (r .0, List·Memᴰ·tail (r .1), r .2)

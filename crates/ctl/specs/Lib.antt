@@ -5,3 +5,4 @@ pub mod Rank
 pub mod Levels
 pub mod Labels
 pub mod Tests
+pub mod Exact

@@ -32,8 +32,8 @@ abbrev pub rootMarked : Table → List ℕ → Bool
 rootMarked T list = all (λ s. not (isInitialKept T list s) || marked T list (rootIndex T) s) (states T)
 
 -- 11 to 13 in their order, of a table and a list of its form
-abbrev pub repairVerdict : Table → List ℕ → Verdict
-repairVerdict T list =
+abbrev pub repairTests : Table → List ℕ → Verdict
+repairTests T list =
     require NotTotal (isTotal T list)
     then require NoInitialKept (keepsInitial T list)
     then require RootFails (rootMarked T list)
@@ -43,4 +43,4 @@ unfoldable pub judgeVerdict : List ℕ → List ℕ → Verdict
 judgeVerdict table list =
     tableVerdict table
     then listVerdict (length (tableOf table .steps)) list
-    then repairVerdict (tableOf table) list
+    then repairTests (tableOf table) list

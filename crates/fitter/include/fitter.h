@@ -1,7 +1,7 @@
 /* The step-table fitter, for C. Link libfitter.a (see the README).
  *
- * Every call answers 0, or the number of its refusal, and then it has written nothing. No call needs its input checked before:
- * any bytes of any length are safe. A buffer may be NULL only where its length is 0. */
+ * Every call answers 0, or the number of its refusal, and then it has written nothing; fitter_repair answers 14 and 15 besides. No call
+ * needs its input checked before: any bytes of any length are safe. A buffer may be NULL only where its length is 0. */
 #ifndef FITTER_H
 #define FITTER_H
 
@@ -11,6 +11,17 @@
 #ifdef __cplusplus
 extern "C" {
 #endif
+
+/* 0 where a repair is found: `list` has a byte for each step, 1 kept and 0 struck, and of all repairs it ranks first. 14 where there is none.
+ * 15 where the search has made `cap` choices and would make another. These three store the choices made, leave the first V entries of `bytes`
+ * and `words` 0, and but for the list that is found every other entry as it was. Else 2 to 8 or 10, and nothing is stored.
+ * `list` needs a byte for each step, `bytes` and `words` V entries each. With n states and e steps, V is e + n and, for each node, n (kinds 0 to 5),
+ * e + n (6 and 7) or n + n (e + 3 n) (8 and 9): at most 223392. */
+uint32_t fitter_repair(const uint8_t *table, size_t table_len, uint64_t cap,
+                       uint8_t *list, size_t list_len,
+                       uint8_t *bytes, size_t bytes_len,
+                       uint32_t *words, size_t words_len,
+                       uint64_t *choices);
 
 /* 0 where the list is a repair of the table; else 2 to 9, 11, 12 or 13. */
 uint32_t fitter_judge(const uint8_t *table, size_t table_len,

@@ -1,9 +1,12 @@
 -- What the numbers that C lends hold after a call.
 use Prim.Native.Nat.{ℕ}
+use mathlib.Core.Option.{Option, none, some}
 use Rattle.label.specs.declared.holding.Holding.{Holding}
 use Rattle.label.specs.declared.holding.Holding.the-variants.{Count, Refused}
 use Rattle.sheet.specs.declared.answer.Read.{Read}
 use Rattle.sheet.specs.declared.answer.Read.the-variants.{Length, Refused as ReadRefused}
+use Rattle.repair.specs.declared.answer.Answer.{Answer}
+use Rattle.repair.specs.Answer.{answerChoices}
 
 -- Holding's count: that of the states where they are given, else as it was
 abbrev pub holdingCount : Holding → ℕ → ℕ
@@ -14,3 +17,11 @@ holdingCount (Refused r) before = before
 abbrev pub readLength : Read → ℕ → ℕ
 readLength (Length k) before = k
 readLength (ReadRefused r) before = before
+
+-- Repair's choices: those that the answer carries, and after a refusal as it was
+abbrev pub stored : Option ℕ → ℕ → ℕ
+stored (some c) before = c
+stored none before = before
+
+abbrev pub repairChoices : Answer → ℕ → ℕ
+repairChoices answer before = stored (answerChoices answer) before

@@ -1,1 +1,4 @@
 pub mod Exports
+pub mod Demand1
+pub mod Demand2
+pub mod Demand3

@@ -1,5 +1,6 @@
 // The face of the fitter to C: every call answers a number, and leaves in every lent buffer what its contract says.
 use label::Holding;
+use repair::Answer;
 use sheet::Read;
 ghost use mathlib.Core.Path.{_≡_};
 ghost use lib.ListN.{length};
@@ -7,7 +8,49 @@ ghost use Rattle.table.specs.Verdict.{verdictNumber};
 ghost use Rattle.ctl.specs.Tests.{judgeVerdict};
 ghost use Rattle.label.specs.Calls.{labelVerdict, labelBuffer, holdingAnswer, holdingBuffer, holdingNumber};
 ghost use Rattle.sheet.specs.Read.{readAnswer, readBuffer, readNumber};
-ghost use Rattle.fitter.specs.Exports.{holdingCount, readLength};
+ghost use Rattle.repair.specs.Answer.{answerNumber};
+ghost use Rattle.repair.specs.Outcome.{repairAnswer, repairList, repairBytes, repairWords};
+ghost use Rattle.fitter.specs.Exports.{holdingCount, readLength, repairChoices};
+
+fn store(choices: &mut u64, c: u64, number: u32) -> u32
+    ensures { λ r. ⌜ r ≡ number ⌝ }
+    ensures { λ _. ⌜ now (choices .exit) ≡ c ⌝ }
+{
+    *choices = c;
+    number
+}
+
+// The number of Repair's answer, and the choices that it carries stored.
+fn store_answer(answer: Answer, choices: &mut u64) -> u32
+    ensures { λ r. ⌜ r ≡ answerNumber answer ⌝ }
+    ensures { λ _. ⌜ now (choices .exit) ≡ repairChoices answer (now (choices .entry)) ⌝ }
+{
+    match answer {
+        Answer::Found(c) => store(choices, c, 0),
+        Answer::None(c) => store(choices, c, 14),
+        Answer::Spent(c) => store(choices, c, 15),
+        Answer::Refused(refusal) => table::refusal_number(refusal),
+    }
+}
+
+// 0 found, 14 none or 15 spent, and the choices stored; or the refusal's number and nothing stored or written.
+#[no_mangle]
+pub extern "C" fn fitter_repair(
+    table: &[u8],
+    cap: u64,
+    list: &mut [u8],
+    bytes: &mut [u8],
+    words: &mut [u32],
+    choices: &mut u64,
+) -> u32
+    ensures { λ r. ⌜ r ≡ answerNumber (repairAnswer (now (table .entry)) cap (now (list .entry)) (now (bytes .entry)) (now (words .entry))) ⌝ }
+    ensures { λ _. ⌜ now (list .exit) ≡ repairList (now (table .entry)) cap (now (list .entry)) (now (bytes .entry)) (now (words .entry)) ⌝ }
+    ensures { λ _. ⌜ now (bytes .exit) ≡ repairBytes (now (table .entry)) cap (now (list .entry)) (now (bytes .entry)) (now (words .entry)) ⌝ }
+    ensures { λ _. ⌜ now (words .exit) ≡ repairWords (now (table .entry)) cap (now (list .entry)) (now (bytes .entry)) (now (words .entry)) ⌝ }
+    ensures { λ _. ⌜ now (choices .exit) ≡ repairChoices (repairAnswer (now (table .entry)) cap (now (list .entry)) (now (bytes .entry)) (now (words .entry))) (now (choices .entry)) ⌝ }
+{
+    store_answer(repair::repair(table, cap, list, bytes, words), choices)
+}
 
 // 0 where the list is a repair of the table, else the refusal's number.
 #[no_mangle]

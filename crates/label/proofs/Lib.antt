@@ -6,7 +6,6 @@ pub mod Next
 pub mod Levels
 pub mod Kept
 pub mod PassWords
-pub mod Over
 pub mod Select
 pub mod Lowest
 pub mod Held

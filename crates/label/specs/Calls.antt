@@ -2,10 +2,11 @@
 use Prim.Native.Nat.{ℕ}
 use mathlib.Core.Bool.{Bool}
 use mathlib.Core.List.{List, _++_}
-use lib.ListN.{length, take, drop}
+use lib.ListN.{length, drop}
 use Rattle.table.specs.declared.refusal.Verdict.{Verdict}
 use Rattle.table.specs.declared.refusal.Verdict.the-variants.{Accepted, Refused}
-use Rattle.table.specs.Verdict.{onAccepted, refusalNumber}
+use Rattle.table.specs.Verdict.{refusalNumber}
+use Rattle.table.specs.Buffer.{onAccepted, over}
 use Rattle.table.specs.Table.{Table, tableOf}
 use Rattle.ctl.specs.Rule.{rootIndex}
 use Rattle.ctl.specs.Levels.{below, select}
@@ -14,10 +15,6 @@ use Rattle.label.specs.declared.analysis.Room.the-variants.{Nodes, State
 use Rattle.label.specs.declared.holding.Holding.{Holding}
 use Rattle.label.specs.declared.holding.Holding.the-variants.{Count, Refused as HoldingRefused}
 use Rattle.label.specs.Analysis.{analysisVerdict, labelWords}
-
--- so many of the values first, and the rest of the buffer as it was
-abbrev pub over : {A : Type 0} → ℕ → List A → List A → List A
-over k values buffer = take k values ++ drop k buffer
 
 -- Label: f entries, bit s of entry i set exactly when s is marked for node i
 abbrev pub labelVerdict : List ℕ → List ℕ → ℕ → Verdict

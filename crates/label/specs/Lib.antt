@@ -1,3 +1,4 @@
 pub mod Words
 pub mod Analysis
 pub mod Calls
+pub mod Exact

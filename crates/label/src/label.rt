@@ -5,7 +5,8 @@ use table::Verdict;
 ghost use mathlib.Core.Path.{_≡_};
 ghost use Prim.Native.Nat.{_≤_};
 ghost use lib.ListN.{length};
-ghost use Rattle.label.specs.Calls.{over, labelVerdict, labelBuffer};
+ghost use Rattle.table.specs.Buffer.{over};
+ghost use Rattle.label.specs.Calls.{labelVerdict, labelBuffer};
 
 // The first k of the words, at the start of the buffer.
 fn write_words(words: [u32; 32], out: &mut [u32], k: usize)

@@ -11,7 +11,8 @@ use Rattle.table.specs.declared.record.Node.{Node}
 use Rattle.table.specs.declared.refusal.Refusal.the-variants.{SheetForm, ShortBuffer}
 use Rattle.table.specs.declared.refusal.Verdict.{Verdict}
 use Rattle.table.specs.declared.refusal.Verdict.the-variants.{Accepted, Refused}
-use Rattle.table.specs.Verdict.{require, _then_, onAccepted, refusalNumber}
+use Rattle.table.specs.Verdict.{require, _then_, refusalNumber}
+use Rattle.table.specs.Buffer.{onAccepted}
 use Rattle.table.specs.Accept.{tableVerdict}
 use Rattle.sheet.specs.declared.answer.Read.{Read}
 use Rattle.sheet.specs.declared.answer.Read.the-variants.{Length, Refused as ReadRefused}

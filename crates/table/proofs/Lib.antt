@@ -2,6 +2,7 @@ pub mod Bools
 pub mod Numbers
 pub mod All
 pub mod Verdicts
+pub mod Buffer
 pub mod Records
 pub mod Scan
 pub mod Rows

@@ -1,4 +1,5 @@
 pub mod Verdict
+pub mod Buffer
 pub mod Table
 pub mod Accept
 pub mod Facts

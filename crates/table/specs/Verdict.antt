@@ -35,8 +35,3 @@ infixr 20 _then_
 abbrev pub _then_ : Verdict → Verdict → Verdict
 Accepted then w = w
 (Refused r) then w = Refused r
-
--- what a lent buffer holds after a call: what was written where the verdict accepts, else what it held
-abbrev pub onAccepted : {A : Type 0} → Verdict → A → A → A
-onAccepted Accepted written before = written
-onAccepted (Refused r) written before = before

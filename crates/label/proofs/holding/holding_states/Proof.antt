@@ -19,7 +19,7 @@ use Rattle.label.specs.declared.analysis.Analysis.{Analysis}
 use Rattle.label.specs.declared.analysis.Room.the-variants.{States}
 use Rattle.label.specs.declared.holding.Holding.the-variants.{Count}
 use Rattle.label.specs.Analysis.{analysisOf}
-use Rattle.table.specs.Verdict.{onAccepted}
+use Rattle.table.specs.Buffer.{onAccepted}
 use Rattle.label.specs.Calls.{statesWith, heldStates, holdingAt}
 use Rattle.label.proofs.Order.{room-accepted}
 use Rattle.label.proofs.Analysed.{verdict-is, passed, packed, root-is}

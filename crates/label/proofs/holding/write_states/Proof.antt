@@ -12,8 +12,9 @@ use lib.Seq.{drop-cons}
 use denote.Ref.{now}
 use Rattle.sets.specs.Member.{member, setOf, lowestOf}
 use Rattle.sets.proofs.SetOf.{setOf-lt}
-use Rattle.label.specs.Calls.{over, statesWith}
-use Rattle.label.proofs.Over.{over-next, over-length, over-all}
+use Rattle.table.specs.Buffer.{over}
+use Rattle.table.proofs.Buffer.{over-next, over-length, over-all}
+use Rattle.label.specs.Calls.{statesWith}
 use Rattle.label.proofs.Lowest.{lowest-first, lowest-below, no-states}
 use Rattle.label.proofs.holding.write_states.Statement.{statement}
 use Rattle.label.proofs.holding.write_states.Tie as tie

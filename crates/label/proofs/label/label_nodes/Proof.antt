@@ -16,8 +16,7 @@ use Rattle.ctl.specs.Labels.{marked}
 use Rattle.label.specs.declared.analysis.Analysis.{Analysis}
 use Rattle.label.specs.declared.analysis.Room.the-variants.{Nodes}
 use Rattle.label.specs.Analysis.{analysisOf, labelWords}
-use Rattle.table.specs.Verdict.{onAccepted}
-use Rattle.label.specs.Calls.{over}
+use Rattle.table.specs.Buffer.{onAccepted, over}
 use Rattle.label.proofs.Order.{room-accepted}
 use Rattle.label.proofs.Analysed.{verdict-is, passed, packed, words-are}
 use borrow.Author.Needs.{needs}

@@ -6,8 +6,8 @@ use native.Mathlib.Omega.{arith}
 use borrow.Author.Needs.{needs}
 use lib.ListN.{length, getD, set}
 use denote.Ref.{now}
-use Rattle.label.specs.Calls.{over}
-use Rattle.label.proofs.Over.{over-next, over-length}
+use Rattle.table.specs.Buffer.{over}
+use Rattle.table.proofs.Buffer.{over-next, over-length}
 use Rattle.label.proofs.label.write_words.Statement.{statement}
 use Rattle.label.proofs.label.write_words.Tie as tie
 

@@ -1,13 +1,13 @@
 -- Writing values to the front of a buffer, one after the other.
-use Prim.Native.Nat.{ℕ, zero, suc, _+_, _≤_, _<_}
+use Prim.Native.Nat.{ℕ, zero, suc, _+_, _-_, _≤_, _<_}
 use mathlib.Core.Path.{_≡_, refl, sym, ap, _∙_}
 use mathlib.Core.List.{List, [], _∷_, _++_}
 use native.Mathlib.Nat.{le-of-suc-le-suc, not-suc-le-zero}
 use native.Mathlib.Numerals.{add-one}
 use native.Mathlib.Omega.{arith}
-use lib.ListN.{length, getD, take, drop, set, length-append, length-drop}
-use lib.Seq.{length-take-le, take-length}
-use Rattle.label.specs.Calls.{over}
+use lib.ListN.{length, getD, take, drop, set, length-append, length-drop, List·getD-append}
+use lib.Seq.{length-take-le, take-length, getD-drop, getD-append-add}
+use Rattle.table.specs.Buffer.{over, Written}
 
 module _ {A : Type 0} where
   next : (i : ℕ) (vs buffer : List A) (d : A) → i < length vs → i < length buffer → set (over i vs buffer) i (getD vs i d) ≡ over (suc i) vs buffer
@@ -26,3 +26,20 @@ module _ {A : Type 0} where
   -- all values
   pub over-all : (vs buffer : List A) → over (length vs) vs buffer ≡ vs ++ drop (length vs) buffer
   over-all vs buffer = ap (λ (xs : List A). xs ++ drop (length vs) buffer) (take-length vs)
+
+-- values in front of the rest, entry by entry
+pub front-written : (values before : List ℕ) (k : ℕ) → length values ≡ k → k ≤ length before → Written values before (values ++ drop k before)
+front-written values before k size fits = record {
+  size = omega (arith, length-append values (drop k before), length-drop k before);
+  front = λ j h. List·getD-append values (drop k before) 0 j h;
+  rest = λ j h.
+      let past : j ≡ length values + (j - k) = omega arith in
+      let whole : k + (j - k) ≡ j = omega arith in
+      ap (λ (i : ℕ). getD (values ++ drop k before) i 0) past
+      ∙ getD-append-add values (drop k before) (j - k) 0
+      ∙ getD-drop k before (j - k) 0
+      ∙ ap (λ (i : ℕ). getD before i 0) whole;
+}
+
+pub over-written : (k : ℕ) (values before : List ℕ) → k ≤ length values → k ≤ length before → Written (take k values) before (over k values before)
+over-written k values before h l = front-written (take k values) before k (length-take-le k values h) l

@@ -1,0 +1,109 @@
+-- Demand 3 holds: what the search promises, carried over to Repair's answer and list, and held against the judge.
+use Prim.Native.Nat.{ℕ, _≤_, _<_}
+use mathlib.Core.Path.{_≡_, refl, sym, ap, subst, _∙_}
+use mathlib.Core.Logic.{_↔_}
+use mathlib.Core.List.{List}
+use native.Mathlib.Decide.{decLt}
+use native.Mathlib.Omega.{arith}
+use lib.ListN.{length, take, drop}
+use lib.Seq.{take-at}
+use Rattle.table.specs.declared.refusal.Verdict.the-variants.{Accepted}
+use Rattle.table.specs.Buffer.{onAccepted}
+use Rattle.table.specs.Table.{Table, tableOf}
+use Rattle.table.specs.Facts.{Wellformed}
+use Rattle.table.proofs.Accepted.{accepted}
+use Rattle.ctl.specs.Kept.{Repair}
+use Rattle.ctl.specs.Rank.{First}
+use Rattle.ctl.proofs.Repair.{judge-accepts-repairs}
+use Rattle.closure.specs.Closure.{Marks}
+use Rattle.search.specs.Search.{Outcome, found, none, spent}
+use Rattle.search.specs.TableSearch.{searchUnder, searchFree, listOf}
+use Rattle.search.specs.Right.{choices, SearchIsRight}
+use Rattle.search.specs.Answer.{listAfter}
+use Rattle.search.proofs.Right.{search-is-right}
+use Rattle.repair.specs.declared.answer.Answer.the-variants.{Found, None, Spent}
+use Rattle.repair.specs.Outcome.{repairVerdict, answerOf, answerAt, repairAnswer, repairList}
+use Rattle.repair.specs.Answer.{answerChoices}
+use Rattle.repair.proofs.Answered.{found-back, none-back, spent-back, choices-of}
+use Rattle.repair.proofs.Listed.{list-size}
+use Rattle.repair.proofs.Order.{long-enough}
+use Rattle.fitter.specs.Demand3.{LongEnough, Together, Demand3}
+
+module _ (table : List ℕ) (cap : ℕ) (list bytes words : List ℕ) (g : LongEnough table list bytes words) where
+  abbrev T : Table
+  T = tableOf table
+
+  wf : Wellformed T
+  wf = accepted table (g .accepted) .table
+
+  right : SearchIsRight T
+  right = search-is-right T wf
+
+  -- no test refuses
+  fits : repairVerdict table list bytes words ≡ Accepted
+  fits = long-enough table list bytes words (g .accepted) (g .list-long) (g .bytes-long) (g .words-long)
+
+  answered : (o : Outcome) → searchUnder T cap ≡ o → repairAnswer table cap list bytes words ≡ answerOf o
+  answered o e = (λ j. answerAt (fits j) (e j))
+
+  -- within the cap the search is the one without a cap
+  within : choices (searchFree T) ≤ cap → (o : Outcome) → searchFree T ≡ o → searchUnder T cap ≡ o
+  within h o e = right .same-within cap h ∙ e
+
+  -- what is found under the cap is found without one
+  found-free : (m : Marks) (c : ℕ) → searchUnder T cap ≡ found m c → searchFree T ≡ found m c
+  found-free m c e = go (decLt cap (choices (searchFree T)))
+    where
+      go : Dec (cap < choices (searchFree T)) → searchFree T ≡ found m c
+      go (yes over) = absurd (let s = right .spent-over cap over in let z : _≡_ {A = ℕ} 0 1 = cc in omega arith)
+      go (no d) = sym (right .same-within cap (omega (arith, d))) ∙ e
+
+  -- the first e bytes of the list are those that the marks give
+  listed : (m : Marks) (c : ℕ) → searchUnder T cap ≡ found m c → take (length (T .steps)) (repairList table cap list bytes words) ≡ listOf T m
+  listed m c e =
+      (λ j. take (length (T .steps)) (onAccepted (fits j) (listAfter T (e j) list) list))
+      ∙ take-at (listOf T m) (drop (length (T .steps)) list) (length (T .steps)) (list-size T m)
+
+  first : (c : ℕ) → repairAnswer table cap list bytes words ≡ Found c
+      → First (Repair T) (take (length (T .steps)) (repairList table cap list bytes words))
+  first c e =
+      let b = found-back (repairVerdict table list bytes words) (searchUnder T cap) c e in
+      let m = b .1 .0 in
+      subst (λ (l : List ℕ). First (Repair T) l) (sym (listed m c (b .1 .1))) (right .found-first m c (found-free m c (b .1 .1)))
+
+  spent-exact : ((c : ℕ) × (repairAnswer table cap list bytes words ≡ Spent c)) ↔ (cap < choices (searchFree T))
+  spent-exact = (λ r. go (r .0) (r .1) (decLt cap (choices (searchFree T))), λ h. (cap, answered (spent cap) (right .spent-over cap h)))
+    where
+      go : (c : ℕ) → repairAnswer table cap list bytes words ≡ Spent c → Dec (cap < choices (searchFree T)) → cap < choices (searchFree T)
+      go c e (yes h) = h
+      go c e (no d) =
+          absurd (right .unspent c (sym (right .same-within cap (omega (arith, d))) ∙ spent-back (repairVerdict table list bytes words) (searchUnder T cap) c e .1))
+
+  module _ (h : choices (searchFree T) ≤ cap) where
+    none-exact : ((c : ℕ) × (repairAnswer table cap list bytes words ≡ None c)) ↔ ((l : List ℕ) → ¬ Repair T l)
+    none-exact = (
+      λ r. right .none-exact .0 (r .0, sym (right .same-within cap h) ∙ none-back (repairVerdict table list bytes words) (searchUnder T cap) (r .0) (r .1) .1),
+      λ no-repair. let r = right .none-exact .1 no-repair in (r .0, answered (none (r .0)) (within h _ (r .1))),
+    )
+
+    found-else : ((c : ℕ) × (repairAnswer table cap list bytes words ≡ Found c)) ↔ ((l : List ℕ) × Repair T l)
+    found-else = (λ r. (_, first (r .0) (r .1) .member), λ r. go (r .0) (r .1) (searchFree T) refl)
+      where
+        go : (l : List ℕ) → Repair T l → (o : Outcome) → searchFree T ≡ o → (c : ℕ) × (repairAnswer table cap list bytes words ≡ Found c)
+        go l repair (found m c) e = (c, answered (found m c) (within h _ e))
+        go l repair (none c) e = absurd (right .none-exact .0 (c, e) l repair)
+        go l repair (spent c) e = absurd (right .unspent c e)
+
+  together : (judged : List ℕ) → Together table cap list bytes words judged
+  together judged = record {
+    spent-exact = spent-exact;
+    none-exact = none-exact;
+    found-else = found-else;
+    found-first = first;
+    found-judged = λ c e. judge-accepts-repairs table _ wf (g .accepted) .1 (first c e .member);
+    carries = ap answerChoices (answered (searchUnder T cap) refl) ∙ choices-of (searchUnder T cap);
+    judge-exact = judge-accepts-repairs table judged wf (g .accepted);
+  }
+
+pub demand-3 : Demand3
+demand-3 table cap list bytes words judged g = together table cap list bytes words g judged

@@ -1,0 +1,109 @@
+-- Demand 1, the lent memory: "After every call on every input, each lent buffer holds exactly what document 01 gives for that answer. Every call ends,
+-- bad input gets its number from 01, and nothing relies on a check made outside."
+--
+-- The contracts of src/lib.rt equate each call's number and buffers with the definitions that this file speaks of. They have no `requires`, and a
+-- function that is proved ends. The judge is lent no buffer. C lends a number besides, which held `before`: Exports.antt says what it holds after.
+use Prim.Native.Nat.{ℕ, _<_}
+use mathlib.Core.Path.{_≡_}
+use mathlib.Core.Bool.{Bool, true}
+use mathlib.Core.Logic.{_↔_}
+use mathlib.Core.List.{List, List·Memᴰ}
+use mathlib.Core.Option.{some}
+use lib.ListN.{length, getD, replicate}
+use Rattle.sets.specs.Member.{setOf, countOf}
+use Rattle.table.specs.declared.refusal.Refusal.{Refusal}
+use Rattle.table.specs.declared.refusal.Verdict.the-variants.{Accepted, Refused}
+use Rattle.table.specs.Buffer.{Written}
+use Rattle.table.specs.Table.{tableOf}
+use Rattle.ctl.specs.Rule.{rootIndex}
+use Rattle.ctl.specs.Levels.{tabulate}
+use Rattle.ctl.specs.Labels.{marked}
+use Rattle.circuit.specs.Variables.{variableFormula}
+use Rattle.closure.specs.Closure.{Marks}
+use Rattle.search.specs.Search.{found}
+use Rattle.search.specs.TableSearch.{searchUnder, listOf}
+use Rattle.label.specs.declared.holding.Holding.the-variants.{Count, Refused as HoldingRefused}
+use Rattle.label.specs.Calls.{labelVerdict, labelBuffer, holdingVerdict, holdingAnswer, holdingBuffer}
+use Rattle.sheet.specs.declared.answer.Read.the-variants.{Length, Refused as ReadRefused}
+use Rattle.sheet.specs.Form.{Sheet, InRange, render}
+use Rattle.sheet.specs.Read.{pack, readVerdict, readAnswer, readBuffer}
+use Rattle.repair.specs.declared.answer.Answer.the-variants.{Found, None, Spent, Refused as RepairRefused}
+use Rattle.repair.specs.Answer.{answerChoices}
+use Rattle.repair.specs.Outcome.{repairVerdict, repairAnswer, repairList, repairBytes, repairWords}
+use Rattle.fitter.specs.Exports.{holdingCount, readLength, repairChoices}
+
+-- ---- Repair
+
+pub record AfterRepair (table : List ℕ) (cap : ℕ) (list bytes words : List ℕ) : Type 0 where
+  -- "bad input gets its number": refused exactly when a test refuses, and for the first one that does
+  pub refused : (r : Refusal) → (repairAnswer table cap list bytes words ≡ RepairRefused r) ↔ (repairVerdict table list bytes words ≡ Refused r)
+  -- "1 to 13 .. leave every buffer untouched"
+  pub untouched : (r : Refusal) → repairAnswer table cap list bytes words ≡ RepairRefused r
+      → (repairList table cap list bytes words ≡ list)
+      × (repairBytes table cap list bytes words ≡ bytes)
+      × (repairWords table cap list bytes words ≡ words)
+      × ((before : ℕ) → repairChoices (repairAnswer table cap list bytes words) before ≡ before)
+  -- "Found writes the first e list bytes. The rest stays."
+  pub found-list : (c : ℕ) → repairAnswer table cap list bytes words ≡ Found c
+      → (m : Marks) × (searchUnder (tableOf table) cap ≡ found m c) × Written (listOf (tableOf table) m) list (repairList table cap list bytes words)
+  -- "None and spent (14, 15) touch only work buffers."
+  pub none-list : (c : ℕ) → repairAnswer table cap list bytes words ≡ None c → repairList table cap list bytes words ≡ list
+  pub spent-list : (c : ℕ) → repairAnswer table cap list bytes words ≡ Spent c → repairList table cap list bytes words ≡ list
+  -- "Found, none and spent carry the choices and leave the first V entries of both work buffers 0. .. The rest stays."
+  pub work : (c : ℕ) → answerChoices (repairAnswer table cap list bytes words) ≡ some c
+      → Written (replicate (variableFormula (tableOf table)) 0) bytes (repairBytes table cap list bytes words)
+      × Written (replicate (variableFormula (tableOf table)) 0) words (repairWords table cap list bytes words)
+      × ((before : ℕ) → repairChoices (repairAnswer table cap list bytes words) before ≡ c)
+
+-- ---- Label
+
+pub record AfterLabel (table list buffer : List ℕ) : Type 0 where
+  -- "1 to 13 .. leave every buffer untouched"
+  pub untouched : (r : Refusal) → labelVerdict table list (length buffer) ≡ Refused r → labelBuffer table list buffer ≡ buffer
+  -- "writes f of them": entry i is the set of the states that are marked for node i; demand 2 says which those are
+  pub written : labelVerdict table list (length buffer) ≡ Accepted
+      → Written (tabulate (length (tableOf table .nodes)) (λ i. setOf 32 (marked (tableOf table) list i))) buffer (labelBuffer table list buffer)
+
+-- ---- Holding
+
+-- the list has each state that has p, once, and no other
+pub record EachOnce (p : ℕ → Bool) (states : List ℕ) : Type 0 where
+  pub each : (s : ℕ) → List·Memᴰ s states ↔ (p s ≡ true)
+  pub once : (i j : ℕ) → i < length states → j < length states → getD states i 0 ≡ getD states j 0 → i ≡ j
+
+pub record AfterHolding (table list buffer : List ℕ) : Type 0 where
+  pub refused : (r : Refusal) → (holdingAnswer table list (length buffer) ≡ HoldingRefused r) ↔ (holdingVerdict table list (length buffer) ≡ Refused r)
+  -- "1 to 13 .. leave every buffer untouched"
+  pub untouched : (r : Refusal) → holdingAnswer table list (length buffer) ≡ HoldingRefused r
+      → (holdingBuffer table list buffer ≡ buffer) × ((before : ℕ) → holdingCount (holdingAnswer table list (length buffer)) before ≡ before)
+  -- "writes the states of the root's set as Label has it, a byte each, each once, order free. Its answer is the number of ones in the root's set."
+  pub written : (k : ℕ) → holdingAnswer table list (length buffer) ≡ Count k
+      → (states : List ℕ)
+      × EachOnce (marked (tableOf table) list (rootIndex (tableOf table))) states
+      × (length states ≡ k)
+      × (k ≡ countOf 32 (marked (tableOf table) list (rootIndex (tableOf table))))
+      × Written states buffer (holdingBuffer table list buffer)
+      × ((before : ℕ) → holdingCount (holdingAnswer table list (length buffer)) before ≡ k)
+
+-- ---- Read
+
+pub record AfterRead (text buffer : List ℕ) : Type 0 where
+  pub refused : (r : Refusal) → (readAnswer text buffer ≡ ReadRefused r) ↔ (readVerdict text (length buffer) ≡ Refused r)
+  -- "1 to 13 .. leave every buffer untouched"
+  pub untouched : (r : Refusal) → readAnswer text buffer ≡ ReadRefused r
+      → (readBuffer text buffer ≡ buffer) × ((before : ℕ) → readLength (readAnswer text buffer) before ≡ before)
+  -- "a sheet into a packed table; .. answers the length": all of the table that the text is the sheet of
+  pub written : (k : ℕ) → readAnswer text buffer ≡ Length k
+      → (v : Sheet)
+      × InRange v
+      × (text ≡ render v)
+      × (length (pack v) ≡ k)
+      × Written (pack v) buffer (readBuffer text buffer)
+      × ((before : ℕ) → readLength (readAnswer text buffer) before ≡ k)
+
+-- "After every call on every input": nothing is asked of any of them
+pub record Demand1 : Type 0 where
+  pub repair : (table : List ℕ) (cap : ℕ) (list bytes words : List ℕ) → AfterRepair table cap list bytes words
+  pub label : (table list buffer : List ℕ) → AfterLabel table list buffer
+  pub holding : (table list buffer : List ℕ) → AfterHolding table list buffer
+  pub read : (text buffer : List ℕ) → AfterRead text buffer

@@ -1,0 +1,56 @@
+-- Demand 3, repairer and judge. "They share the table and a list of kept steps, no more": crates.txt shows it, since the judge's crates and the repairer's
+-- have only the table and its meaning (table, ctl, sets) in common.
+--
+-- `repairAnswer`, `repairList` and `judgeVerdict` are what the contracts of `fitter_repair` and `fitter_judge` equate their results with.
+use Prim.Native.Nat.{ℕ, _≤_, _<_}
+use mathlib.Core.Path.{_≡_}
+use mathlib.Core.Logic.{_↔_}
+use mathlib.Core.List.{List}
+use mathlib.Core.Option.{some}
+use lib.ListN.{length, take}
+use Rattle.table.specs.declared.refusal.Verdict.the-variants.{Accepted}
+use Rattle.table.specs.Table.{tableOf}
+use Rattle.table.specs.Accept.{tableVerdict}
+use Rattle.ctl.specs.Kept.{Repair}
+use Rattle.ctl.specs.Rank.{First}
+use Rattle.ctl.specs.Tests.{judgeVerdict}
+use Rattle.circuit.specs.Variables.{variableFormula}
+use Rattle.search.specs.TableSearch.{searchUnder, searchFree}
+use Rattle.search.specs.Right.{choices}
+use Rattle.repair.specs.declared.answer.Answer.the-variants.{Found, None, Spent}
+use Rattle.repair.specs.Answer.{answerChoices}
+use Rattle.repair.specs.Outcome.{repairAnswer, repairList}
+
+-- an accepted table, and long enough buffers: the list has e bytes, and both work buffers V entries. `variableFormula` is 01's V, and of an accepted
+-- table it is the number of the circuit's variables (circuit/proofs/Exact.antt).
+pub record LongEnough (table list bytes words : List ℕ) : Type 0 where
+  pub accepted : tableVerdict table ≡ Accepted
+  pub list-long : length (tableOf table .steps) ≤ length list
+  pub bytes-long : variableFormula (tableOf table) ≤ length bytes
+  pub words-long : variableFormula (tableOf table) ≤ length words
+
+-- "A repair is a list that is total, keeps an initial state and has the rule at every kept initial state under path meaning": `Repair`
+pub record Together (table : List ℕ) (cap : ℕ) (list bytes words judged : List ℕ) : Type 0 where
+  -- "The repairer answers "spent" exactly when 01's search, uncapped, makes more choices than the cap."
+  pub spent-exact : ((c : ℕ) × (repairAnswer table cap list bytes words ≡ Spent c)) ↔ (cap < choices (searchFree (tableOf table)))
+  -- "Otherwise it answers "none" exactly when no list is a repair,"
+  pub none-exact : choices (searchFree (tableOf table)) ≤ cap
+      → ((c : ℕ) × (repairAnswer table cap list bytes words ≡ None c)) ↔ ((l : List ℕ) → ¬ Repair (tableOf table) l)
+  -- "and else "found"."
+  pub found-else : choices (searchFree (tableOf table)) ≤ cap
+      → ((c : ℕ) × (repairAnswer table cap list bytes words ≡ Found c)) ↔ ((l : List ℕ) × Repair (tableOf table) l)
+  -- "The found list is a repair, first in rank: every other repair ranks after it."
+  pub found-first : (c : ℕ) → repairAnswer table cap list bytes words ≡ Found c
+      → First (Repair (tableOf table)) (take (length (tableOf table .steps)) (repairList table cap list bytes words))
+  -- "The judge accepts it."
+  pub found-judged : (c : ℕ) → repairAnswer table cap list bytes words ≡ Found c
+      → judgeVerdict table (take (length (tableOf table .steps)) (repairList table cap list bytes words)) ≡ Accepted
+  -- "Each of the three answers carries the choices that 01's search makes under the cap."
+  pub carries : answerChoices (repairAnswer table cap list bytes words) ≡ some (choices (searchUnder (tableOf table) cap))
+  -- "The judge accepts a list exactly when it is a repair, whoever made it."
+  pub judge-exact : (judgeVerdict table judged ≡ Accepted) ↔ Repair (tableOf table) judged
+
+-- "What follows holds together, for every accepted table, every cap, long enough buffers and whatever bytes are handed to the judge as a list."
+abbrev pub Demand3 : Type 0
+Demand3 =
+    (table : List ℕ) (cap : ℕ) (list bytes words judged : List ℕ) → LongEnough table list bytes words → Together table cap list bytes words judged

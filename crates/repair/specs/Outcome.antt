@@ -1,0 +1,60 @@
+-- 01, "Calls", 1: what Repair answers, and what each of its three buffers holds afterwards, for all inputs.
+use Prim.Native.Nat.{ℕ}
+use mathlib.Core.Bool.{Bool, _&&_}
+use mathlib.Core.List.{List}
+use lib.Dec.{leb}
+use lib.ListN.{length, replicate}
+use Rattle.table.specs.declared.refusal.Refusal.the-variants.{ShortBuffer}
+use Rattle.table.specs.declared.refusal.Verdict.{Verdict}
+use Rattle.table.specs.declared.refusal.Verdict.the-variants.{Accepted, Refused}
+use Rattle.table.specs.Verdict.{require, _then_}
+use Rattle.table.specs.Buffer.{onAccepted, over}
+use Rattle.table.specs.Table.{Table, tableOf}
+use Rattle.table.specs.Accept.{tableVerdict}
+use Rattle.circuit.specs.Variables.{variableFormula}
+use Rattle.search.specs.Search.{Outcome, found, none, spent}
+use Rattle.search.specs.TableSearch.{searchUnder}
+use Rattle.search.specs.Answer.{listAfter}
+use Rattle.repair.specs.declared.answer.Answer.{Answer}
+use Rattle.repair.specs.declared.answer.Answer.the-variants.{Found, None, Spent, Refused as AnswerRefused}
+
+-- 10: the list has e bytes, and either work buffer V entries
+abbrev pub buffersFit : Table → ℕ → ℕ → ℕ → Bool
+buffersFit T list bytes words = leb (length (T .steps)) list && leb (variableFormula T) bytes && leb (variableFormula T) words
+
+-- 2 to 8 on the table, then 10
+unfoldable pub repairVerdict : List ℕ → List ℕ → List ℕ → List ℕ → Verdict
+repairVerdict table list bytes words =
+    tableVerdict table
+    then require ShortBuffer (buffersFit (tableOf table) (length list) (length bytes) (length words))
+
+-- what the search answers, with its choices
+abbrev pub answerOf : Outcome → Answer
+answerOf (found m c) = Found c
+answerOf (none c) = None c
+answerOf (spent c) = Spent c
+
+-- refused where a test refuses, else that
+abbrev pub answerAt : Verdict → Outcome → Answer
+answerAt Accepted outcome = answerOf outcome
+answerAt (Refused r) outcome = AnswerRefused r
+
+-- a work buffer: the first k entries 0, and the rest as it was
+abbrev pub cleared : ℕ → List ℕ → List ℕ
+cleared k buffer = over k (replicate k 0) buffer
+
+-- the outcome of the call, for every table, cap and three buffers
+module _ (table : List ℕ) (cap : ℕ) (list bytes words : List ℕ) where
+  abbrev pub repairAnswer : Answer
+  repairAnswer = answerAt (repairVerdict table list bytes words) (searchUnder (tableOf table) cap)
+
+  -- found writes the first e bytes of the list; none, spent and a refusal leave it
+  abbrev pub repairList : List ℕ
+  repairList = onAccepted (repairVerdict table list bytes words) (listAfter (tableOf table) (searchUnder (tableOf table) cap) list) list
+
+  -- found, none and spent leave the first V entries of both work buffers 0; a refusal leaves them
+  abbrev pub repairBytes : List ℕ
+  repairBytes = onAccepted (repairVerdict table list bytes words) (cleared (variableFormula (tableOf table)) bytes) bytes
+
+  abbrev pub repairWords : List ℕ
+  repairWords = onAccepted (repairVerdict table list bytes words) (cleared (variableFormula (tableOf table)) words) words

@@ -1,0 +1,35 @@
+// The search of an accepted table, in buffers that are long enough.
+use crate::answer::Answer;
+use crate::net::net_of;
+use search::Outcome;
+ghost use mathlib.Core.Path.{_≡_};
+ghost use Prim.Native.Nat.{_≤_};
+ghost use lib.ListN.{length, drop};
+ghost use Rattle.table.specs.declared.refusal.Verdict.the-variants.{Accepted};
+ghost use Rattle.table.specs.Table.{tableOf};
+ghost use Rattle.table.specs.Accept.{tableVerdict};
+ghost use Rattle.circuit.specs.Variables.{variableFormula};
+ghost use Rattle.search.specs.TableSearch.{searchUnder};
+ghost use Rattle.search.specs.Answer.{listAfter};
+ghost use Rattle.repair.specs.Outcome.{answerOf};
+
+// What the search is told beside the bytes is worked out once. It uses no words past the first V.
+pub fn run(table: &[u8], cap: u64, list: &mut [u8], words: &mut [u32]) -> Answer
+    requires { ⌜ tableVerdict (now table) ≡ Accepted ⌝ }
+    requires { ⌜ length (tableOf (now table) .steps) ≤ length (now list) ⌝ }
+    requires { ⌜ variableFormula (tableOf (now table)) ≤ length (now words) ⌝ }
+    ensures { λ r. ⌜ r ≡ answerOf (searchUnder (tableOf (now (table .entry))) cap) ⌝ }
+    ensures { λ _. ⌜ now (list .exit) ≡ listAfter (tableOf (now (table .entry))) (searchUnder (tableOf (now (table .entry))) cap) (now (list .entry)) ⌝ }
+    ensures { λ _. ⌜ drop (variableFormula (tableOf (now (table .entry)))) (now (words .exit)) ≡ drop (variableFormula (tableOf (now (table .entry)))) (now (words .entry)) ⌝ }
+{
+    let net = net_of(table);
+    let targets = table::target_sets(table);
+    let b = closure::level_bases(table);
+    let bases = b.at;
+    let levels = b.total;
+    match search::search_table(table, net, &targets, &bases, levels, cap, list, words) {
+        Outcome::Found(c) => Answer::Found(c),
+        Outcome::None(c) => Answer::None(c),
+        Outcome::Spent(c) => Answer::Spent(c),
+    }
+}

@@ -1,0 +1,233 @@
+// Repair a second time, in the plain way: the net as explicit clauses, and the search over them with a counter for each clause and a trail
+// to undo. Written from the scope's text; it has nothing of the library.
+#![allow(dead_code)]
+
+// A literal is twice its variable's number, and one more where it is the opposite. Steps are the first variables.
+type Literal = usize;
+
+// Clauses one after the other: clause c is `literals[starts[c]..starts[c + 1]]`.
+pub struct Net {
+    pub steps: usize,
+    pub variables: usize,
+    starts: Vec<u32>,
+    literals: Vec<u32>,
+}
+
+// Where each step ends, and which steps leave each state.
+struct Steps {
+    ends: Vec<usize>,
+    out: Vec<Vec<usize>>,
+}
+
+impl Net {
+    fn clause(&mut self, literals: impl Iterator<Item = Literal>) {
+        self.literals.extend(literals.map(|l| l as u32));
+        self.starts.push(self.literals.len() as u32);
+    }
+
+    // An AND gate, or with `all` false an OR gate, which is the same with every literal turned.
+    fn gate(&mut self, all: bool, inputs: &[Literal]) -> Literal {
+        let turn = !all as usize;
+        let g = 2 * self.variables;
+        self.variables += 1;
+        for l in inputs {
+            self.clause([g ^ 1 ^ turn, l ^ turn].into_iter());
+        }
+        self.clause([g ^ turn].into_iter().chain(inputs.iter().map(|l| l ^ 1 ^ turn)));
+        g
+    }
+
+    // A gate for each step, then for each state one over the steps out of it: what kind 6 (or 7) says of the row x.
+    fn next(&mut self, every: bool, steps: &Steps, x: &[Literal]) -> Vec<Literal> {
+        let gates: Vec<Literal> = steps.ends.iter().enumerate().map(|(j, &t)| self.gate(!every, &[2 * j ^ every as usize, x[t]])).collect();
+        steps.out.iter().map(|out| self.gate(every, &out.iter().map(|&j| gates[j]).collect::<Vec<_>>())).collect()
+    }
+
+    // Levels 0 to n of kinds 8 and 9.
+    fn release(&mut self, every: bool, steps: &Steps, a: &[Literal], b: &[Literal]) -> Vec<Literal> {
+        let mut level: Vec<Literal> = b.iter().map(|&x| self.gate(true, &[x])).collect();
+        for _ in 0..b.len() {
+            let next = self.next(every, steps, &level);
+            let either: Vec<Literal> = (0..b.len()).map(|s| self.gate(false, &[a[s], next[s]])).collect();
+            level = (0..b.len()).map(|s| self.gate(true, &[b[s], either[s]])).collect();
+        }
+        level
+    }
+}
+
+// The net of an accepted table.
+pub fn net(table: &[u8]) -> Net {
+    let (n, e) = (table[0] as usize, table[1] as usize);
+    let (states, rest) = table[4..].split_at(3 * n);
+    let (steps, nodes) = rest.split_at(2 * e);
+    let initial: Vec<usize> = (0..n).filter(|s| states[3 * s] == 1).collect();
+    let label = |s: usize, p: u8| (states[3 * s + 1] as u32 + 256 * states[3 * s + 2] as u32) >> p & 1 == 1;
+    let ends = (0..e).map(|j| steps[2 * j + 1] as usize).collect();
+    let out = (0..n).map(|s| (0..e).filter(|j| steps[2 * j] as usize == s).collect()).collect();
+    let steps = Steps { ends, out };
+
+    let mut net = Net { steps: e, variables: e, starts: vec![0], literals: vec![] };
+    let kept: Vec<Literal> = steps.out.iter().map(|out| net.gate(false, &out.iter().map(|j| 2 * j).collect::<Vec<_>>())).collect();
+    let mut x: Vec<Vec<Literal>> = vec![];
+    for node in nodes.chunks(3) {
+        let (kind, a, b) = (node[0], node[1] as usize, node[2] as usize);
+        let row = match kind {
+            0 | 1 => (0..n).map(|_| net.gate(kind == 1, &[])).collect(),
+            2 => (0..n).map(|s| net.gate(label(s, node[1]), &[])).collect(),
+            3 => (0..n).map(|s| net.gate(true, &[x[a][s] ^ 1])).collect(),
+            // a literal counts once in a clause
+            4 | 5 if a == b => (0..n).map(|s| net.gate(kind == 4, &[x[a][s]])).collect(),
+            4 | 5 => (0..n).map(|s| net.gate(kind == 4, &[x[a][s], x[b][s]])).collect(),
+            6 | 7 => net.next(kind == 6, &steps, &x[a]),
+            _ => net.release(kind == 8, &steps, &x[a], &x[b]),
+        };
+        x.push(row);
+    }
+    for j in 0..e {
+        net.clause([2 * j ^ 1, kept[steps.ends[j]]].into_iter());
+    }
+    net.clause(initial.iter().map(|&s| kept[s]));
+    for &s in &initial {
+        net.clause([kept[s] ^ 1, x[x.len() - 1][s]].into_iter());
+    }
+    net
+}
+
+struct Search<'a> {
+    net: &'a Net,
+    // the clauses of literal l are `holders[firsts[l]..firsts[l + 1]]`
+    firsts: Vec<u32>,
+    holders: Vec<u32>,
+    // how many literals of each clause are not contradicted by the first `done` of the trail
+    left: Vec<u32>,
+    holds: Vec<bool>,
+    trail: Vec<Literal>,
+    done: usize,
+    cap: u64,
+    choices: u64,
+}
+
+#[derive(PartialEq)]
+enum End {
+    Found,
+    Failed,
+    Spent,
+}
+
+impl<'a> Search<'a> {
+    fn new(net: &'a Net, cap: u64) -> Self {
+        let clauses = net.starts.len() - 1;
+        let mut firsts = vec![0u32; 2 * net.variables + 1];
+        for &l in &net.literals {
+            firsts[l as usize] += 1;
+        }
+        let mut sum = 0;
+        for x in firsts.iter_mut() {
+            sum += *x;
+            *x = sum;
+        }
+        let mut holders = vec![0u32; net.literals.len()];
+        for c in (0..clauses).rev() {
+            for &l in &net.literals[net.starts[c] as usize..net.starts[c + 1] as usize] {
+                firsts[l as usize] -= 1;
+                holders[firsts[l as usize] as usize] = c as u32;
+            }
+        }
+        let left = net.starts.windows(2).map(|w| w[1] - w[0]).collect();
+        Search { net, firsts, holders, left, holds: vec![false; 2 * net.variables], trail: vec![], done: 0, cap, choices: 0 }
+    }
+
+    fn add(&mut self, l: Literal) {
+        self.holds[l] = true;
+        self.trail.push(l);
+    }
+
+    // Adds the one literal left of a clause; false where all are contradicted.
+    fn unit(&mut self, c: usize) -> bool {
+        let literals = &self.net.literals[self.net.starts[c] as usize..self.net.starts[c + 1] as usize];
+        match literals.iter().find(|&&l| !self.holds[l as usize ^ 1]) {
+            Some(&l) if !self.holds[l as usize] => self.add(l as usize),
+            Some(_) => {}
+            None => return false,
+        }
+        true
+    }
+
+    // The closure of what the trail has; false where it fails.
+    fn close(&mut self) -> bool {
+        let mut good = true;
+        while good && self.done < self.trail.len() {
+            let gone = self.trail[self.done] ^ 1;
+            self.done += 1;
+            for k in self.firsts[gone]..self.firsts[gone + 1] {
+                let c = self.holders[k as usize] as usize;
+                self.left[c] -= 1;
+                good &= self.left[c] > 1 || self.unit(c);
+            }
+        }
+        good
+    }
+
+    // Forgets all but the first `mark` of the trail.
+    fn undo(&mut self, mark: usize) {
+        while self.trail.len() > mark {
+            let l = self.trail.pop().unwrap();
+            self.holds[l] = false;
+            if self.trail.len() < self.done {
+                for k in self.firsts[l ^ 1]..self.firsts[(l ^ 1) + 1] {
+                    self.left[self.holders[k as usize] as usize] += 1;
+                }
+            }
+        }
+        self.done = self.done.min(mark);
+    }
+
+    // The steps before `from` are settled.
+    fn search(&mut self, from: usize) -> End {
+        if !self.close() {
+            return End::Failed;
+        }
+        let Some(step) = (from..self.net.steps).find(|&j| !self.holds[2 * j] && !self.holds[2 * j + 1]) else {
+            return End::Found;
+        };
+        let mark = self.trail.len();
+        for l in [2 * step, 2 * step + 1] {
+            if self.choices == self.cap {
+                return End::Spent;
+            }
+            self.choices += 1;
+            self.undo(mark);
+            self.add(l);
+            let end = self.search(step + 1);
+            if end != End::Failed {
+                return end;
+            }
+        }
+        End::Failed
+    }
+}
+
+#[derive(Debug, PartialEq)]
+pub struct Answer {
+    pub number: u32,
+    pub choices: u64,
+    pub list: Vec<u8>,
+}
+
+// 0 and the list, 14 or 15.
+pub fn search(net: &Net, cap: u64) -> Answer {
+    let mut search = Search::new(net, cap);
+    let units: Vec<usize> = (0..search.left.len()).filter(|&c| search.left[c] == 1).collect();
+    let end = if units.iter().all(|&c| search.unit(c)) { search.search(0) } else { End::Failed };
+    let number = match end {
+        End::Found => 0,
+        End::Failed => 14,
+        End::Spent => 15,
+    };
+    let list = if number == 0 { (0..net.steps).map(|j| search.holds[2 * j] as u8).collect() } else { vec![] };
+    Answer { number, choices: search.choices, list }
+}
+
+pub fn repair(table: &[u8], cap: u64) -> Answer {
+    search(&net(table), cap)
+}

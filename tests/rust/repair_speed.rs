@@ -1,0 +1,308 @@
+// Measures Repair on drawn tables against the plain search over explicit clauses, in one run. Times are of whole calls: the plain search
+// also builds its clauses. The two must agree on every table; how fast they are decides nothing here.
+mod clauses;
+mod fitter;
+
+use std::hint::black_box;
+use std::time::Instant;
+
+// A fixed sequence of numbers, the same in every run.
+struct Random(u64);
+
+impl Random {
+    fn new(seed: u64) -> Self {
+        Random(seed.wrapping_mul(0x9E3779B97F4A7C15))
+    }
+
+    fn below(&mut self, n: u64) -> u64 {
+        self.0 = self.0.wrapping_mul(6364136223846793005).wrapping_add(1442695040888963407);
+        (self.0 >> 33) % n
+    }
+
+    fn between(&mut self, range: (u64, u64)) -> u64 {
+        range.0 + self.below(range.1 + 1 - range.0)
+    }
+}
+
+// The nodes of a rule, and a way to add one more.
+struct Rule(Vec<u8>);
+
+impl Rule {
+    fn len(&self) -> u64 {
+        self.0.len() as u64 / 3
+    }
+
+    fn add(&mut self, kind: u64, a: u64, b: u64) -> u64 {
+        self.0.extend([kind as u8, a as u8, b as u8]);
+        self.len() - 1
+    }
+
+    // Node 0 is false, then the propositions.
+    fn leaves(props: u64) -> Self {
+        let mut rule = Rule(vec![]);
+        rule.add(0, 0, 0);
+        for p in 0..props {
+            rule.add(2, p, 0);
+        }
+        rule
+    }
+}
+
+// Nodes of any kind over any lower nodes.
+fn any_kinds(random: &mut Random, nodes: u64, props: u64) -> Rule {
+    let mut rule = Rule::leaves(props);
+    while rule.len() < nodes {
+        let (kind, a, b) = (3 + random.below(7), random.below(rule.len()), random.below(rule.len()));
+        rule.add(kind, a, if [3, 6, 7].contains(&kind) { 0 } else { b });
+    }
+    rule
+}
+
+// Fixed points over any lower nodes.
+fn fixed_points(random: &mut Random, nodes: u64, props: u64) -> Rule {
+    let mut rule = Rule::leaves(props);
+    while rule.len() < nodes {
+        let (kind, a, b) = (8 + random.below(2), random.below(rule.len()), random.below(rule.len()));
+        rule.add(kind, a, b);
+    }
+    rule
+}
+
+// One usual demand on propositions a and b, in four nodes. Node 0 is false, so 8 0 x is "always x on all paths".
+fn usual(rule: &mut Rule, which: u64, a: u64, b: u64) -> u64 {
+    let not_a = rule.add(3, a, 0);
+    if which == 0 {
+        // on all paths, a until b
+        let not_b = rule.add(3, b, 0);
+        let never = rule.add(9, not_a, not_b);
+        return rule.add(3, never, 0);
+    }
+    let inner = match which {
+        // a stays within reach; a comes again and again
+        1 | 2 => {
+            let never = rule.add(7 + which, 0, not_a);
+            rule.add(3, never, 0)
+        }
+        // after a, b can follow; after a, not a follows; from a on, b can go on for ever
+        _ => {
+            let then = match which {
+                3 => rule.add(7, b, 0),
+                4 => rule.add(6, not_a, 0),
+                _ => rule.add(9, 0, b),
+            };
+            rule.add(5, not_a, then)
+        }
+    };
+    rule.add(8, 0, inner)
+}
+
+// Several usual demands at once, each over the and of those before it.
+fn usual_demands(random: &mut Random, nodes: u64, props: u64) -> Rule {
+    let mut rule = Rule::leaves(props);
+    let mut root = 0;
+    for k in 0..(nodes - rule.len() + 1) / 5 {
+        let (which, a, b) = (random.below(6), 1 + random.below(props), 1 + random.below(props));
+        let demand = usual(&mut rule, which, a, b);
+        root = if k == 0 { demand } else { rule.add(4, root, demand) };
+    }
+    while rule.len() < nodes {
+        root = rule.add(4, root, root);
+    }
+    rule
+}
+
+// From how many to how many.
+struct Size {
+    states: (u64, u64),
+    steps: (u64, u64),
+    nodes: (u64, u64),
+    props: u64,
+}
+
+const SMALL: Size = Size { states: (2, 6), steps: (4, 16), nodes: (8, 14), props: 2 };
+const MIDDLE: Size = Size { states: (10, 16), steps: (30, 50), nodes: (14, 24), props: 3 };
+const SPARSE: Size = Size { states: (32, 32), steps: (40, 70), nodes: (32, 32), props: 3 };
+const LARGE: Size = Size { states: (32, 32), steps: (128, 128), nodes: (32, 32), props: 3 };
+
+// Different steps in any order, one at least out of each state.
+fn steps(random: &mut Random, n: u64, e: u64) -> Vec<[u8; 2]> {
+    let mut steps: Vec<[u8; 2]> = vec![];
+    while (steps.len() as u64) < e {
+        let from = if (steps.len() as u64) < n { steps.len() as u64 } else { random.below(n) };
+        let step = [from as u8, random.below(n) as u8];
+        if !steps.contains(&step) {
+            steps.push(step);
+        }
+    }
+    for i in (1..steps.len()).rev() {
+        steps.swap(i, random.below(i as u64 + 1) as usize);
+    }
+    steps
+}
+
+// The table of a seed; the seed also says which of the three sorts of rule it has.
+fn table(size: &Size, seed: u64) -> Vec<u8> {
+    let mut random = Random::new(seed);
+    let n = random.between(size.states);
+    let e = random.between(size.steps).min(n * n);
+    let f = random.between(size.nodes);
+    let initial = 1 + random.below(n.min(4));
+    let mut t = vec![n as u8, e as u8, f as u8, size.props as u8];
+    for s in 0..n {
+        t.extend([(s < initial) as u8, random.below(1 << size.props) as u8, 0]);
+    }
+    t.extend(steps(&mut random, n, e).concat());
+    let rule = [any_kinds, usual_demands, fixed_points][seed as usize % 3](&mut random, f, size.props);
+    t.extend(rule.0);
+    t
+}
+
+fn small(seed: u64) -> Vec<u8> {
+    table(&SMALL, seed)
+}
+
+fn middle(seed: u64) -> Vec<u8> {
+    table(&MIDDLE, seed)
+}
+
+fn sparse(seed: u64) -> Vec<u8> {
+    table(&SPARSE, seed)
+}
+
+fn large(seed: u64) -> Vec<u8> {
+    table(&LARGE, seed)
+}
+
+// The largest net there is: one proposition, and fixed points in all other nodes.
+fn largest(seed: u64) -> Vec<u8> {
+    let mut random = Random::new(seed);
+    let mut t = vec![32, 128, 32, 1];
+    for s in 0..32 {
+        t.extend([(s < 4) as u8, (s == 0 || random.below(2) == 1) as u8, 0]);
+    }
+    t.extend(steps(&mut random, 32, 128).concat());
+    t.extend([2, 0, 0]);
+    for i in 1..32 {
+        t.extend([8 + random.below(2) as u8, random.below(i) as u8, random.below(i) as u8]);
+    }
+    t
+}
+
+const LARGEST: usize = 223392;
+
+struct Lent {
+    list: Vec<u8>,
+    bytes: Vec<u8>,
+    words: Vec<u32>,
+}
+
+fn library(lent: &mut Lent, table: &[u8], cap: u64) -> clauses::Answer {
+    let mut choices = 0;
+    let number = fitter::repair(table, cap, &mut lent.list, &mut lent.bytes, &mut lent.words, &mut choices);
+    let written = if number == 0 { table[1] as usize } else { 0 };
+    clauses::Answer { number, choices, list: lent.list[..written].to_vec() }
+}
+
+// The shortest of three runs, in microseconds, and the answer. A long run is not repeated.
+fn timed(mut run: impl FnMut() -> clauses::Answer) -> (f64, clauses::Answer) {
+    let mut best = f64::MAX;
+    for k in 0.. {
+        let start = Instant::now();
+        let answer = run();
+        let time = start.elapsed().as_secs_f64() * 1e6;
+        best = best.min(time);
+        if k == 2 || time > 30000.0 {
+            return (best, answer);
+        }
+    }
+    unreachable!()
+}
+
+// Tables of one size, by their seeds. The seeds of a group were taken in their order, for the number of choices that their tables make.
+struct Group {
+    name: &'static str,
+    table: fn(u64) -> Vec<u8>,
+    seeds: Vec<u64>,
+    cap: u64,
+}
+
+fn group(name: &'static str, table: fn(u64) -> Vec<u8>, seeds: &[u64], cap: u64) -> Group {
+    Group { name, table, seeds: seeds.to_vec(), cap }
+}
+
+#[rustfmt::skip]
+fn groups() -> Vec<Group> {
+    vec![
+        group("small", small, &(0..200).collect::<Vec<_>>(), u64::MAX),
+        group("middle, no choices", middle, &[
+            2, 7, 8, 14, 17, 20, 21, 24, 25, 26, 29, 31, 32, 34, 35, 40, 41, 52, 57, 63, 66, 67, 72, 82, 87, 90, 91, 96, 109, 111,
+        ], u64::MAX),
+        group("middle, tens", middle, &[
+            0, 1, 3, 5, 6, 10, 11, 12, 15, 18, 19, 23, 27, 28, 30, 33, 36, 37, 38, 43, 44, 46, 47, 53, 55, 56, 58, 61, 65, 68,
+        ], u64::MAX),
+        group("middle, hundreds", middle, &[
+            51, 289, 454, 477, 601, 609, 622, 637, 739, 835, 979, 1085, 1221, 1258, 1715, 1778, 1836, 1971, 2108, 2154, 2297, 2393, 2594, 2606, 2715,
+        ], u64::MAX),
+        group("middle, thousands", middle, &[
+            4, 9, 13, 16, 88, 99, 108, 130, 245, 292, 299, 308, 388, 630, 1005, 1391, 1419, 1665,
+        ], 5000),
+        group("large, no choices", large, &[0, 2, 4, 5, 10, 17, 25, 26, 31, 33, 42, 69], u64::MAX),
+        group("large, few steps, tens", sparse, &[6, 8, 9, 11, 12, 15, 20, 21, 22, 23, 35, 52, 55, 61, 70], u64::MAX),
+        group("large, few fixed points, a hundred", large, &[1, 3, 6, 7, 9, 12, 15, 16, 18, 28, 37, 40], u64::MAX),
+        group("large, fixed points, a hundred", large, &[8, 11, 20, 23, 29, 35], u64::MAX),
+        group("largest net, a hundred", largest, &[0, 1, 2, 3], u64::MAX),
+        group("large, thousands", large, &[13, 14, 19, 22, 105, 116, 144, 167, 177], 2000),
+    ]
+}
+
+// The least and the greatest of some numbers.
+fn range(numbers: &[u64]) -> String {
+    let (least, greatest) = (numbers.iter().min().unwrap(), numbers.iter().max().unwrap());
+    if least == greatest { least.to_string() } else { format!("{least} to {greatest}") }
+}
+
+// Runs both on every table of a group and prints its line; false where they differ.
+fn measure(group: &Group, lent: &mut Lent) -> bool {
+    let (mut variables, mut choices) = (vec![], vec![]);
+    let (mut ours, mut theirs, mut worst) = (0.0, 0.0, 0.0f64);
+    let mut same = true;
+    for &seed in &group.seeds {
+        let table = (group.table)(seed);
+        let (time, answer) = timed(|| library(lent, black_box(&table), group.cap));
+        let (plain_time, plain_answer) = timed(|| clauses::repair(black_box(&table), group.cap));
+        if answer != plain_answer {
+            println!("{}, seed {}: the library {:?}, the plain search {:?}", group.name, seed, answer, plain_answer);
+            same = false;
+        }
+        variables.push(clauses::net(&table).variables as u64);
+        choices.push(answer.choices);
+        ours += time;
+        theirs += plain_time;
+        worst = worst.max(time / plain_time);
+    }
+    let tables = group.seeds.len() as f64;
+    println!(
+        "{:36}{:>6}{:>18}{:>14}{:>12.1}{:>12.1}{:>8.2}{:>8.2}",
+        group.name, group.seeds.len(), range(&variables), range(&choices), ours / tables, theirs / tables, ours / theirs, worst
+    );
+    same
+}
+
+// The longest time of a call that makes one closure only.
+fn one_closure(lent: &mut Lent, tables: impl Iterator<Item = Vec<u8>>) -> f64 {
+    tables.map(|t| timed(|| library(lent, black_box(&t), 0)).0).fold(0.0, f64::max)
+}
+
+fn main() {
+    let mut lent = Lent { list: vec![0; 128], bytes: vec![0; LARGEST], words: vec![0; LARGEST] };
+    println!("repair: microseconds a call; ratio of the sums; greatest ratio of one table");
+    println!("{:36}{:>6}{:>18}{:>14}{:>12}{:>12}{:>8}{:>8}", "group", "tables", "variables", "choices", "library", "plain", "ratio", "worst");
+    let mut same = true;
+    for group in groups() {
+        same &= measure(&group, &mut lent);
+    }
+    let first = one_closure(&mut lent, (0..4).map(largest));
+    let slowest = one_closure(&mut lent, (0..90).map(large));
+    println!("one closure (cap 0): {LARGEST} variables, {first:.0} us; the slowest of 90 large tables, {slowest:.0} us");
+    std::process::exit(if same { 0 } else { 1 });
+}

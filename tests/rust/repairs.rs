@@ -1,0 +1,146 @@
+// Runs every line of tests/data/tables.tsv through Repair, and compares the number, the choices and every entry of the three buffers, with
+// guard entries around them. Where a table is accepted, the plain search over explicit clauses must agree too, and so must the judge.
+//
+// A line: table, refusal (0: none), variables, cap, answer, choices, list. Bytes are in hex, `-` stands for empty or none.
+mod clauses;
+mod fitter;
+
+struct Vector {
+    table: Vec<u8>,
+    number: u32,
+    variables: usize,
+    cap: u64,
+    choices: u64,
+    list: Vec<u8>,
+}
+
+fn bytes_of(hex: &str) -> Vec<u8> {
+    if hex == "-" {
+        return vec![];
+    }
+    (0..hex.len() / 2).map(|i| u8::from_str_radix(&hex[2 * i..2 * i + 2], 16).expect("hex")).collect()
+}
+
+// The number that C gets for an answer.
+fn number_of(refusal: &str, answer: &str) -> u32 {
+    match answer {
+        "found" => 0,
+        "none" => 14,
+        "spent" => 15,
+        _ => refusal.parse().expect("a refusal"),
+    }
+}
+
+fn vector(line: &str) -> Vector {
+    let c: Vec<&str> = line.split('\t').collect();
+    Vector {
+        table: bytes_of(c[0]),
+        number: number_of(c[1], c[4]),
+        variables: c[2].parse().unwrap_or(0),
+        cap: c[3].parse().unwrap_or(0),
+        choices: c[5].parse().unwrap_or(0),
+        list: bytes_of(c[6]),
+    }
+}
+
+const GUARD: usize = 2;
+
+// What the buffers hold before a call: nothing that a call would write, and a different value at each place.
+fn list_before(room: usize) -> Vec<u8> {
+    (0..room + 2 * GUARD).map(|i| 2 + (i % 254) as u8).collect()
+}
+
+fn bytes_before(room: usize) -> Vec<u8> {
+    (0..room + 2 * GUARD).map(|i| 1 + (i % 255) as u8).collect()
+}
+
+fn words_before(room: usize) -> Vec<u32> {
+    (0..room + 2 * GUARD).map(|i| 0xA5A50001 + 2 * i as u32).collect()
+}
+
+// How many entries of each buffer are lent.
+#[derive(Clone, Copy)]
+struct Room {
+    list: usize,
+    bytes: usize,
+    words: usize,
+}
+
+// One call, with this much room: the number, the choices, and all of the buffers and their guards.
+fn agrees(v: &Vector, cap: u64, room: Room, wanted: u32) -> bool {
+    let (mut list, mut bytes, mut words) = (list_before(room.list), bytes_before(room.bytes), words_before(room.words));
+    let (mut list_after, mut bytes_after, mut words_after) = (list.clone(), bytes.clone(), words.clone());
+    let mut choices = u64::MAX - 7;
+    let mut choices_after = choices;
+    if [0, 14, 15].contains(&wanted) {
+        bytes_after[GUARD..GUARD + v.variables].fill(0);
+        words_after[GUARD..GUARD + v.variables].fill(0);
+        choices_after = v.choices;
+    }
+    if wanted == 0 {
+        list_after[GUARD..GUARD + v.list.len()].copy_from_slice(&v.list);
+    }
+    let got = fitter::repair(
+        &v.table,
+        cap,
+        &mut list[GUARD..GUARD + room.list],
+        &mut bytes[GUARD..GUARD + room.bytes],
+        &mut words[GUARD..GUARD + room.words],
+        &mut choices,
+    );
+    got == wanted && choices == choices_after && list == list_after && bytes == bytes_after && words == words_after
+}
+
+// With as much room as needed, with more, and with one entry too few of each buffer.
+fn accepted_agrees(v: &Vector) -> bool {
+    let needed = Room { list: v.table[1] as usize, bytes: v.variables, words: v.variables };
+    let more = Room { list: needed.list + 3, bytes: needed.bytes + 5, words: needed.words + 4 };
+    agrees(v, v.cap, needed, v.number)
+        && agrees(v, v.cap, more, v.number)
+        && (needed.list == 0 || agrees(v, v.cap, Room { list: needed.list - 1, ..more }, 10))
+        && agrees(v, v.cap, Room { bytes: needed.bytes - 1, ..more }, 10)
+        && agrees(v, v.cap, Room { words: needed.words - 1, ..more }, 10)
+        && agrees(v, v.cap, Room { list: 0, bytes: 0, words: 0 }, 10)
+}
+
+// A refused table is refused whatever is lent.
+fn refused_agrees(v: &Vector) -> bool {
+    let none = Room { list: 0, bytes: 0, words: 0 };
+    let some = Room { list: 128, bytes: 1000, words: 1000 };
+    [0, u64::MAX].iter().all(|&cap| agrees(v, cap, none, v.number) && agrees(v, cap, some, v.number))
+}
+
+// The judge accepts what is found.
+fn judge_agrees(v: &Vector) -> bool {
+    v.number != 0 || fitter::judge(&v.table, &v.list) == 0
+}
+
+fn plain_agrees(v: &Vector) -> bool {
+    let net = clauses::net(&v.table);
+    let wanted = clauses::Answer { number: v.number, choices: v.choices, list: v.list.clone() };
+    net.variables == v.variables && clauses::search(&net, v.cap) == wanted
+}
+
+fn vector_agrees(v: &Vector) -> bool {
+    if [0, 14, 15].contains(&v.number) {
+        accepted_agrees(v) && judge_agrees(v) && plain_agrees(v)
+    } else {
+        refused_agrees(v)
+    }
+}
+
+fn main() {
+    let path = std::env::args().nth(1).expect("the file of vectors");
+    let text = std::fs::read_to_string(path).expect("the vectors");
+    let vectors: Vec<Vector> = text.lines().skip(1).map(vector).collect();
+    let mut agreed = 0;
+    for (k, v) in vectors.iter().enumerate() {
+        if vector_agrees(v) {
+            agreed += 1;
+        } else {
+            println!("line {} differs", k + 2);
+        }
+    }
+    println!("repairs: {} of {} agree", agreed, vectors.len());
+    std::process::exit(if vectors.len() == 3843 && agreed == vectors.len() { 0 } else { 1 });
+}
