@@ -4,28 +4,32 @@ use Prim.Native.Nat.{ℕ, zero, suc, _^_, _≤_, _<_}
 use native.Mathlib.Nat.{not-suc-le-zero}
 use native.Mathlib.Omega.{arith}
 use native.Mathlib.Decide.{decLt}
-use mathlib.Core.Path.{_≡_, sym, subst, _∙_}
-use mathlib.Core.Bool.{Bool, true, false, true≢false, false≢true}
+use mathlib.Core.Path.{_≡_, refl, sym, subst, _∙_}
+use mathlib.Core.Bool.{Bool, true, false, cond, _&&_, true≢false, false≢true}
 use mathlib.Core.List.{List}
+use lib.Bits.{bitAnd}
 use lib.ListN.{length, getD}
+use Rattle.sets.specs.Member.{member}
 use Rattle.sets.proofs.Laws.{member-zero}
 use Rattle.table.specs.Table.{Table}
 use Rattle.table.specs.Facts.{Wellformed}
 use Rattle.table.specs.Rows.{targetSet}
+use Rattle.table.proofs.Bools.{and-parts}
 use Rattle.ctl.specs.Rule.{Quantifier}
 use Rattle.circuit.specs.Logic.{Literal}
 use Rattle.circuit.specs.Variables.{Var}
 use Rattle.closure.specs.declared.row.Row.{Row}
-use Rattle.closure.specs.Row.{known, turned, Within, union}
-use Rattle.closure.specs.Rules.{isEvery, row, backSteps, backEnd}
+use Rattle.closure.specs.Row.{known, turned, only, Within, union}
+use Rattle.closure.specs.Rules.{isEvery, row, isNone, unmet, lastLeft, backSteps, backEnd}
 use Rattle.closure.specs.Memory.{Memory, Knowledge, knowledge, rowAt, SmallRow, Sized, stepPlace}
 use Rattle.closure.specs.Inside.{RowIn, StepsIn, Inside}
 use Rattle.closure.specs.Back.{backRows, backRow, backReport}
 use Rattle.closure.specs.Advance.{ForcedBy}
-use Rattle.closure.specs.Sweep.{memory, Stepped, goBack, addRow}
-use Rattle.closure.proofs.RowLaws.{target-small, turned-small}
+use Rattle.closure.specs.Sweep.{memory, Stepped, failing, goBack, goBackMore, addRow}
+use Rattle.closure.proofs.RowLaws.{cond-true, target-small, turned-small}
 use Rattle.closure.proofs.TurnedRows.{turned-union, turned-within, within-left, within-right}
 use Rattle.closure.proofs.RulesSmall.{none-small, back-steps-small, back-end-small}
+use Rattle.closure.proofs.NewRows.{none-known}
 use Rattle.closure.proofs.AheadSound.{backStepsOf}
 use Rattle.closure.proofs.InsideLess.{advance-less}
 use Rattle.closure.proofs.Advances.{Advances, advance-so, advance-then, advance-failing}
@@ -48,6 +52,28 @@ module _ (q : Quantifier) (A E : Row) (t s : ℕ) (x : Row) where
   end-by-small : t < 2 ^ 32 → SmallRow x → SmallRow E → SmallRow endBy
   end-by-small h k l = back-end-small t x (turned (isEvery q) E) (known (turned (isEvery q) A) true s) (known (turned (isEvery q) A) false s) h k
       (turned-small (isEvery q) E l)
+
+  -- where A knows nothing, neither is of any state
+  module _ (none : isNone A ≡ true) where
+    abbrev E′ : Row
+    E′ = turned (isEvery q) E
+
+    not-true-at : known (turned (isEvery q) A) true s ≡ true → ⊥
+    not-true-at = none-known (isEvery q) A none true s
+
+    not-false-at : (b : Bool) → known (turned (isEvery q) A) false s && b ≡ true → ⊥
+    not-false-at b m = none-known (isEvery q) A none false s (and-parts (known (turned (isEvery q) A) false s) b m .0)
+
+    none-left : (u : ℕ) → member (lastLeft t x E′ (known (turned (isEvery q) A) false s)) u ≡ true → ⊥
+    none-left u m = not-false-at (only (unmet t x E′)) (cond-true (known (turned (isEvery q) A) false s && only (unmet t x E′)) (unmet t x E′) u .0 m .0)
+
+    none-steps : (r : Row) → Within stepsBy r
+    none-steps r u true m = absurd (none-left u m)
+    none-steps r u false m = absurd (not-true-at (cond-true (known (turned (isEvery q) A) true s) (bitAnd t (E′ .no)) u .0 m .0))
+
+    none-end : (r : Row) → Within endBy r
+    none-end r u true m = absurd (not-true-at (cond-true (known (turned (isEvery q) A) true s) (x .yes) u .0 m .0))
+    none-end r u false m = absurd (none-left u m)
 
 -- state s adds nothing to its steps, and what it has for the ends is in r
 abbrev pub BackRest : Table → Quantifier → Row → Row → Row → Knowledge → ℕ → Type 0
@@ -159,3 +185,19 @@ module _ (T : Table) (wf : Wellformed T) (targets : List ℕ) (ends : (s : ℕ) 
           λ t sign m.
               turned-within (isEvery q) (row-of n) (endRow (knowledge T M)) (z .1) t sign (z .0 s l .1 t sign m),
         )) (advance-then T steps last)
+
+    -- where there is nothing to take back, nothing is done, and nothing had to be
+    pub go-back-more-advance : (endRow : Knowledge → Row) (addEnd : Row → Memory → Stepped)
+        → ((x : Row) → SmallRow x → (N : Memory) → Sized T N → Given T N (λ S. RowIn T S end x) → Advances T (λ K. Within x (endRow K)) N (addEnd x N))
+        → Advances T (λ K. (s : ℕ) → s < length (T .states) → BackRest T q A E (turned (isEvery q) (endRow K)) K s) M
+        (goBackMore targets (length (T .states)) (isEvery q) A E addEnd M)
+    go-back-more-advance endRow addEnd add = go (isNone A) refl
+      where
+        go : (b : Bool) → isNone A ≡ b
+            → Advances T (λ K. (s : ℕ) → s < length (T .states) → BackRest T q A E (turned (isEvery q) (endRow K)) K s) M
+            (cond b (failing false M) (goBack targets (length (T .states)) (isEvery q) A E addEnd M))
+        go true none = advance-so T (λ z s l. (
+          none-steps q A E (targetSet (T .steps) s) s (knowledge T M .steps s) none (knowledge T M .steps s),
+          none-end q A E (targetSet (T .steps) s) s (knowledge T M .steps s) none (turned (isEvery q) (endRow (knowledge T M))),
+        )) (advance-failing T false M sized (λ e. absurd (false≢true e)))
+        go false some = go-back-advance endRow addEnd add

@@ -20,7 +20,7 @@ use Rattle.closure.specs.Rest.{Rest}
 use Rattle.closure.specs.Inside.{literal, Inside}
 use Rattle.closure.specs.Advance.{ForcedBy, Grows, Advance}
 use Rattle.closure.specs.Closes.{stepKnown, Between, Closes, Closed}
-use Rattle.closure.proofs.RowLaws.{same-ends}
+use Rattle.closure.proofs.RowLaws.{target-true, same-ends}
 use Rattle.closure.proofs.RestForced.{rest-forced}
 
 -- ---- sizes
@@ -114,7 +114,8 @@ module _ (T : Table) where
 
     rest-closes : (M : Memory) → Sized T M → Rest T (knowledge T M) → (P : List (Literal Var)) → Between T P M → Closes T P false M
     rest-closes M z rest P b =
-        let all = rest-forced T wf (knowledge T M) (small-knowledge z) rest P
+        let all = rest-forced T wf (knowledge T M) (small-knowledge z) rest
+        (λ s h t e. let x = b .below .steps s h true t e in target-true T wf s t .1 (x .0, x .1, x .2, x .3)) P
         (λ l i. let x = b .of-steps l i in (x .0, x .1, x .2, held l i (x .0) (x .2))) in
         record {
           fails-exact = (λ e. absurd (false≢true e), λ f. absurd (all .0 f));

@@ -33,7 +33,8 @@ use Rattle.closure.proofs.Advances.{Advances, advance-so, advance-then,
 use Rattle.closure.proofs.AddAdvance.{rows-small, levels-small}
 use Rattle.closure.proofs.AddPlaces.{Given, closed, advance-node}
 use Rattle.closure.proofs.AddLevel.{fixpoint, advance-level}
-use Rattle.closure.proofs.BackAdvance.{go-back-advance}
+use Rattle.closure.proofs.NewRows.{new-in}
+use Rattle.closure.proofs.BackAdvance.{go-back-more-advance}
 use Rattle.closure.proofs.NextAdvance.{stepRows, ahead-ends, over-small}
 use Rattle.closure.proofs.InsideParts.{release-b, release-below}
 
@@ -118,6 +119,9 @@ module _ (T : Table) (wf : Wellformed T) (targets : List ℕ) (ends : (s : ℕ) 
     ahead-in : Given T M (λ S. RowIn T S (ahead i (suc m)) (J .ahead))
     ahead-in = by-rows (λ S. RowIn T S (ahead i (suc m)) (J .ahead)) (λ P. join-ahead-in T wf (ForcedBy T P) (closed T P) i h q a b op m few above x y N)
 
+    more-in : Given T M (λ S. RowIn T S (ahead i (suc m)) (J .more))
+    more-in P inside = new-in T (ForcedBy T P) (ahead i (suc m)) (J .ahead) N N-small (ahead-in P inside)
+
     clash : J .fails ≡ true → Given T M (Clash T)
     clash e = by-rows (Clash T) (λ P l x-in y-in n. join-clash T wf (ForcedBy T P) (closed T P) i h q a b op m few above x y N l x-in y-in n
         above-small x-small y-small N-small e)
@@ -138,12 +142,12 @@ module _ (T : Table) (wf : Wellformed T) (targets : List ℕ) (ends : (s : ℕ) 
         let right = advance-node T wf _ (three .sized) (J .b) (join-b-small above x y N above-small x-small y-small N-small) b (below .1)
         (λ P inside. b-in P (advance-less three (ForcedBy T P) inside)) in
         let four = advance-then T three right in
-        let back = go-back-advance T wf targets ends q (J .ahead) under under-small _ (four .sized)
+        let back = go-back-more-advance T wf targets ends q (J .more) under under-small _ (four .sized)
         (λ P inside s l z k steps. let old = advance-less four (ForcedBy T P) inside in
-        level-back-steps-in T wf (ForcedBy T P) (closed T P) i h q a b op m few s l z under (J .ahead) k under-small steps (under-in P old) (ahead-in P old))
+        level-back-steps-in T wf (ForcedBy T P) (closed T P) i h q a b op m few s l z under (J .more) k under-small steps (under-in P old) (more-in P old))
         (level i m)
         (λ P inside s l z k steps. let old = advance-less four (ForcedBy T P) inside in
-        level-back-end-in T wf (ForcedBy T P) (closed T P) i h q a b op m few s l z under (J .ahead) k under-small steps (under-in P old) (ahead-in P old))
+        level-back-end-in T wf (ForcedBy T P) (closed T P) i h q a b op m few s l z under (J .more) k under-small steps (under-in P old) (more-in P old))
         (λ K. K .levels i m) (addLevel (length (T .states)) fix m)
         (λ z k O sized-O given. advance-so T (λ w. w .0) (advance-level T wf O sized-O z k i q a b h op (isEvery q) m (omega arith) given)) in
         advance-so T (λ z s l. record {

@@ -32,6 +32,7 @@ pub mod RestJoin
 pub mod RestAhead
 pub mod Values
 pub mod RestPlain
+pub mod RestBackFull
 pub mod RestLevels
 pub mod RestKept
 pub mod RestDemands
@@ -55,6 +56,7 @@ pub mod RulesSmall
 pub mod TurnedRows
 pub mod KeptAdvance
 pub mod PlainAdvance
+pub mod NewRows
 pub mod BackAdvance
 pub mod NextAdvance
 pub mod LevelAdvance

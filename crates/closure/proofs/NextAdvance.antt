@@ -16,11 +16,11 @@ use Rattle.ctl.specs.Rule.{Quantifier, next, operatorOf}
 use Rattle.circuit.specs.Variables.{value}
 use Rattle.closure.specs.declared.row.Row.{Row}
 use Rattle.closure.specs.Row.{turned, WithinAt}
-use Rattle.closure.specs.Rules.{isEvery, row, unmet}
+use Rattle.closure.specs.Rules.{isEvery, row, unmet, newOf}
 use Rattle.closure.specs.Memory.{Memory, rowAt, SmallRow, Sized, stepPlace, nodePlace}
 use Rattle.closure.specs.Rest.{aheadOf, RestBack}
 use Rattle.closure.specs.Advance.{ForcedBy}
-use Rattle.closure.specs.Sweep.{_andThen_, addRow, nodeRow, aheadIn, goBack, nextStep}
+use Rattle.closure.specs.Sweep.{_andThen_, addRow, nodeRow, aheadIn, goBackMore, nextStep}
 use Rattle.closure.proofs.RowLaws.{turned-small}
 use Rattle.closure.proofs.RulesSmall.{ahead-small}
 use Rattle.closure.proofs.AheadSound.{aheadOver}
@@ -29,7 +29,8 @@ use Rattle.closure.proofs.InsideLess.{advance-less}
 use Rattle.closure.proofs.Advances.{Advances, advance-so, advance-then}
 use Rattle.closure.proofs.AddAdvance.{rows-small}
 use Rattle.closure.proofs.AddPlaces.{closed, advance-node}
-use Rattle.closure.proofs.BackAdvance.{BackRest, go-back-advance}
+use Rattle.closure.proofs.NewRows.{new-in}
+use Rattle.closure.proofs.BackAdvance.{BackRest, go-back-more-advance}
 use Rattle.closure.proofs.PlainAdvance.{Settled}
 
 -- the step rows of a memory
@@ -48,9 +49,9 @@ module _ (T : Table) (wf : Wellformed T) (targets : List ℕ) (ends : (s : ℕ) 
 
   module _ (M : Memory) (sized : Sized T M) (i : ℕ) (h : i < length (T .nodes)) (q : Quantifier) (a : ℕ) (op : operatorOf (nodeAt T i) ≡ next q a)
       (la : a < length (T .nodes)) where
-    next-at : Advances T (Settled T i (λ K s. WithinAt s (aheadOf T K q (K .nodes a)) (K .nodes i) × RestBack T K q (K .nodes i) (K .nodes a) s)) M
+    next-at : Advances T (Settled T i (λ K s. WithinAt s (aheadOf T K q (K .nodes a)) (K .nodes i) × RestBack T K q (newOf (K .nodes i) (aheadOf T K q (K .nodes a))) (K .nodes a) s)) M
         (addRow (nodePlace i) (aheadOver T q (stepRows M) (nodeRow M a)) M
-        andThen (λ N. goBack targets (length (T .states)) (isEvery q) (nodeRow N i) (nodeRow M a) (addRow (nodePlace a)) N))
+        andThen (λ N. goBackMore targets (length (T .states)) (isEvery q) (newOf (nodeRow N i) (aheadOver T q (stepRows M) (nodeRow M a))) (nodeRow M a) (addRow (nodePlace a)) N))
     next-at =
         let E = nodeRow M a in
         let small = rows-small T M sized (nodePlace a) in
@@ -58,20 +59,21 @@ module _ (T : Table) (wf : Wellformed T) (targets : List ℕ) (ends : (s : ℕ) 
         (λ P inside. next-ahead-in T wf (ForcedBy T P) (closed T P) i h q a op (stepRows M) (λ s. rows-small T M sized (stepPlace s)) E small
         (inside .steps) (inside .nodes a la)) in
         let N = addRow (nodePlace i) (aheadOver T q (stepRows M) E) M .memory in
-        let A = nodeRow N i in
-        let back = go-back-advance T wf targets ends q A E small N (up .sized)
+        let over = over-small q E M in
+        let A = newOf (nodeRow N i) (aheadOver T q (stepRows M) E) in
+        let back = go-back-more-advance T wf targets ends q A E small N (up .sized)
         (λ P inside s l x k steps. next-back-steps-in T wf (ForcedBy T P) (closed T P) i h q a op s l x E A k small steps
-        (advance-less up (ForcedBy T P) inside .nodes a la) (inside .nodes i h))
+        (advance-less up (ForcedBy T P) inside .nodes a la) (new-in T (ForcedBy T P) (value T i) (nodeRow N i) (aheadOver T q (stepRows M) E) over (inside .nodes i h)))
         (value T a)
         (λ P inside s l x k steps. next-back-end-in T wf (ForcedBy T P) (closed T P) i h q a op s l x E A k small steps
-        (advance-less up (ForcedBy T P) inside .nodes a la) (inside .nodes i h))
+        (advance-less up (ForcedBy T P) inside .nodes a la) (new-in T (ForcedBy T P) (value T i) (nodeRow N i) (aheadOver T q (stepRows M) E) over (inside .nodes i h)))
         (λ K. K .nodes a) (addRow (nodePlace a))
         (λ x k O sized-O given. advance-so T (λ z. z .0) (advance-node T wf O sized-O x k a la given)) in
-        let back-so = advance-so T {Q = λ K. (s : ℕ) → s < length (T .states) → BackRest T q (K .nodes i) E (turned (isEvery q) (K .nodes a)) K s} (λ z. z) back in
+        let back-so = advance-so T {Q = λ K. (s : ℕ) → s < length (T .states) → BackRest T q (newOf (K .nodes i) (aheadOver T q (stepRows M) E)) E (turned (isEvery q) (K .nodes a)) K s} (λ z. z) back in
         advance-so T (λ z. (λ s l. (z .0 .0 s, record { steps = z .1 s l .0; ends = z .1 s l .1 }), z .0 .1)) (advance-then T up back-so)
 
-    pub next-advance : Advances T (Settled T i (λ K s. WithinAt s (aheadOf T K q (K .nodes a)) (K .nodes i) × RestBack T K q (K .nodes i) (K .nodes a) s)) M
+    pub next-advance : Advances T (Settled T i (λ K s. WithinAt s (aheadOf T K q (K .nodes a)) (K .nodes i) × RestBack T K q (newOf (K .nodes i) (aheadOf T K q (K .nodes a))) (K .nodes a) s)) M
         (nextStep targets (length (T .states)) i (isEvery q) a M)
-    next-advance = subst (λ (r : Row). Advances T (Settled T i (λ K s. WithinAt s (aheadOf T K q (K .nodes a)) (K .nodes i) × RestBack T K q (K .nodes i) (K .nodes a) s)) M
-        (addRow (nodePlace i) r M andThen (λ N. goBack targets (length (T .states)) (isEvery q) (nodeRow N i) (nodeRow M a) (addRow (nodePlace a)) N)))
+    next-advance = subst (λ (r : Row). Advances T (Settled T i (λ K s. WithinAt s (aheadOf T K q (K .nodes a)) (K .nodes i) × RestBack T K q (newOf (K .nodes i) (aheadOf T K q (K .nodes a))) (K .nodes a) s)) M
+        (addRow (nodePlace i) r M andThen (λ N. goBackMore targets (length (T .states)) (isEvery q) (newOf (nodeRow N i) r) (nodeRow M a) (addRow (nodePlace a)) N)))
         (ahead-ends q (nodeRow M a) M) next-at

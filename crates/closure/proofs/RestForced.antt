@@ -24,6 +24,7 @@ use Rattle.closure.proofs.Forced.{Closed, forced-least}
 use Rattle.closure.proofs.AndClosed.{gate-closed}
 use Rattle.closure.proofs.Apart.{gates-apart}
 use Rattle.closure.proofs.Says.{rowOf, placeOf, Says}
+use Rattle.closure.proofs.RestBackFull.{OfTable}
 use Rattle.closure.proofs.RestNodes.{gates-good}
 use Rattle.closure.proofs.RestDemands.{demands-closed}
 
@@ -32,11 +33,11 @@ abbrev pub Held : Table → Knowledge → List (Literal Var) → Type 0
 Held T K P = (l : Literal Var) → List·Memᴰ l P
     → (j : ℕ) × (j < length (T .steps)) × (l .var ≡ step j) × (known (K .steps (stepAt T j .from)) (l .sign) (stepAt T j .to) ≡ true)
 
-module _ (T : Table) (wf : Wellformed T) (K : Knowledge) (small : Small K) (rest : Rest T K) where
+module _ (T : Table) (wf : Wellformed T) (K : Knowledge) (small : Small K) (rest : Rest T K) (ours : OfTable T K) where
   -- what the rows say is closed under the unit rule
   says-closed : (C : Clause) → List·Memᴰ C (clauses T) → Closed (Says T K) C
   says-closed = each-clause T _
-      (λ d m. gate-closed (Says T K) (d .output) (d .gate) (gates-good T wf K small rest d m .0) (gates-apart T wf d m))
+      (λ d m. gate-closed (Says T K) (d .output) (d .gate) (gates-good T wf K small rest ours d m .0) (gates-apart T wf d m))
       (demands-closed T wf K rest small)
 
   -- no variable of the table is known both ways
@@ -45,7 +46,7 @@ module _ (T : Table) (wf : Wellformed T) (K : Knowledge) (small : Small K) (rest
   says-clear v m = ⊎-elim
       (λ j. subst (λ (v : Var). ClearAt (placeOf T v) (rowOf T K v)) (j .2)
       (rest .kept (stepAt T (j .0) .from) (wf .from-state (j .0) (j .1)) .clear (stepAt T (j .0) .to)))
-      (λ d. subst (λ (v : Var). ClearAt (placeOf T v) (rowOf T K v)) (d .2) (gates-good T wf K small rest (d .0) (d .1) .1))
+      (λ d. subst (λ (v : Var). ClearAt (placeOf T v) (rowOf T K v)) (d .2) (gates-good T wf K small rest ours (d .0) (d .1) .1))
       (variable-cases T v m)
 
   not-both : (sign : Bool) (v : Var) → List·Memᴰ v (variables T) → Says T K (literal sign v) → Says T K (literal (not sign) v) → ⊥

@@ -15,7 +15,7 @@ use Rattle.circuit.specs.Variables.{step, node, edge, ahead, either, level, con
 use Rattle.circuit.specs.Gates.{is, aheadGate, edges, levelGates, atStates}
 use Rattle.circuit.proofs.Lists.{Each, each-more, each-one, each-append, each-over}
 use Rattle.closure.specs.Row.{turned, WithinAt, ClearAt}
-use Rattle.closure.specs.Rules.{isEvery}
+use Rattle.closure.specs.Rules.{isEvery, newOf}
 use Rattle.closure.specs.Memory.{Knowledge, Small}
 use Rattle.closure.specs.Rest.{aheadOf, RestBack, RestLevel, Rest}
 use Rattle.closure.specs.Inside.{literal}
@@ -24,17 +24,19 @@ use Rattle.closure.proofs.RestSteps.{AheadRest}
 use Rattle.closure.proofs.RestJoin.{ahead-within, either-and, level-and}
 use Rattle.closure.proofs.RestAhead.{Good, ahead-rest, edges-good, ahead-good}
 use Rattle.closure.proofs.RestPlain.{pair-shape}
+use Rattle.closure.proofs.RestBackFull.{OfTable, back-full}
 use Rattle.closure.proofs.Values.{value-is, value-row, value-place, value-other}
 
-module _ (T : Table) (wf : Wellformed T) (K : Knowledge) (small : Small K) (rest : Rest T K) (i : ℕ) (h : i < length (T .nodes)) where
+module _ (T : Table) (wf : Wellformed T) (K : Knowledge) (small : Small K) (rest : Rest T K) (ours : OfTable T K) (i : ℕ) (h : i < length (T .nodes)) where
   -- AX and EX
   pub next-good : (q : Quantifier) (a : ℕ) → operatorOf (nodeAt T i) ≡ next q a → a < length (T .nodes)
-      → ((s : ℕ) → s < length (T .states) → WithinAt s (aheadOf T K q (K .nodes a)) (K .nodes i) × RestBack T K q (K .nodes i) (K .nodes a) s)
+      → ((s : ℕ) → s < length (T .states) → WithinAt s (aheadOf T K q (K .nodes a)) (K .nodes i) × RestBack T K q (newOf (K .nodes i) (aheadOf T K q (K .nodes a))) (K .nodes a) s)
       → Each (Good T K) (atStates T (λ s. edges T q i 0 (value T a) s ++ (is (node i s) (aheadGate q (map (λ j. pos (edge i 0 j)) (stepsOut T s))) ∷ [])))
   unfolding edgesAt rowOf placeOf
   next-good q a e ha r = each-over (length (T .states)) _ _ (λ s l.
       let is-edges : edgesAt T K (operatorOf (nodeAt T i)) i 0 s ≡ edgesOver T K q (K .nodes i) (K .nodes a) s = ap (λ (o : Operator). edgesAt T K o i 0 s) e in
-      let at-rest = ahead-rest T wf K small rest q (K .nodes i) (K .nodes a) s l (small .nodes a) (rest .clear a ha) (rest .clear i h s l) (r s l .0) (r s l .1) in
+      let at-rest = ahead-rest T wf K small rest q (K .nodes i) (K .nodes a) s l (small .nodes a) (rest .clear a ha) (rest .clear i h s l) (r s l .0)
+      (back-full T wf K small ours q (K .nodes i) (K .nodes a) s l (small .nodes a) (rest .kept s l .clear) (rest .clear a ha) (r s l .1)) in
       each-append _ (edges T q i 0 (value T a) s) _
       (edges-good T wf K q i 0 (K .nodes i) (K .nodes a) s is-edges at-rest (value T a)
       (λ j t d. value-other T a t (step j) refl (sym d)) (λ t k. value-row T K rest a ha t) (value-place T a))
@@ -77,7 +79,9 @@ module _ (T : Table) (wf : Wellformed T) (K : Knowledge) (small : Small K) (rest
 
       at-rest : AheadRest (targetSet (T .steps) s) (K .steps s) (turned (isEvery q) (K .levels i m)) (turned (isEvery q) (aheadLevel T K q i a b (suc m))) s
       at-rest = ahead-rest T wf K small rest q (aheadLevel T K q i a b (suc m)) (K .levels i m) s l (small .levels i m) (level-clear m (omega arith))
-          (r s l m k .ahead-clear) (ahead-within (K .levels i (suc m)) (K .nodes a) (K .nodes b) (aheadOf T K q (K .levels i m)) s) (r s l m k .back)
+          (r s l m k .ahead-clear) (ahead-within (K .levels i (suc m)) (K .nodes a) (K .nodes b) (aheadOf T K q (K .levels i m)) s)
+          (back-full T wf K small ours q (aheadLevel T K q i a b (suc m)) (K .levels i m) s l (small .levels i m) (rest .kept s l .clear)
+          (level-clear m (omega arith)) (r s l m k .back))
 
       -- the step gates, N, G and the level
       edge-good : Each (Good T K) (edges T q i (suc m) (level i m) s)

@@ -15,9 +15,10 @@ use Rattle.closure.specs.Rest.{RestNode, Rest}
 use Rattle.closure.proofs.RestAhead.{Good}
 use Rattle.closure.proofs.RestPlain.{constant-good, negation-good, both-good}
 use Rattle.closure.proofs.RestLevels.{next-good, release-good}
+use Rattle.closure.proofs.RestBackFull.{OfTable}
 use Rattle.closure.proofs.RestKept.{kept-good}
 
-module _ (T : Table) (wf : Wellformed T) (K : Knowledge) (small : Small K) (rest : Rest T K) where
+module _ (T : Table) (wf : Wellformed T) (K : Knowledge) (small : Small K) (rest : Rest T K) (ours : OfTable T K) where
   -- the gates of a node
   node-good : (i : ℕ) (h : i < length (T .nodes)) (o : Operator) → operatorOf (nodeAt T i) ≡ o → OfChildren (λ a. a < length (T .nodes)) o
       → ((s : ℕ) → s < length (T .states) → RestNode T K i o s) → Each (Good T K) (nodeGates T i o)
@@ -27,8 +28,8 @@ module _ (T : Table) (wf : Wellformed T) (K : Knowledge) (small : Small K) (rest
   node-good i h (negation a) e c r = negation-good T wf K rest i h a c r
   node-good i h (conjunction a b) e c r = both-good T wf K rest i h every a b (c .0) (c .1) r
   node-good i h (disjunction a b) e c r = both-good T wf K rest i h some a b (c .0) (c .1) r
-  node-good i h (next q a) e c r = next-good T wf K small rest i h q a e c r
-  node-good i h (release q a b) e c r = release-good T wf K small rest i h q a b e (c .0) (c .1) r
+  node-good i h (next q a) e c r = next-good T wf K small rest ours i h q a e c r
+  node-good i h (release q a b) e c r = release-good T wf K small rest ours i h q a b e (c .0) (c .1) r
 
   -- Every gate's output is what its inputs say, and is not known both ways.
   pub gates-good : Each (Good T K) (gates T)

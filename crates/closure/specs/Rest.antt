@@ -11,7 +11,7 @@ use Rattle.table.specs.Rows.{targetSet}
 use Rattle.ctl.specs.Rule.{Quantifier, every, some, Operator, constant, atom, negation, conjunction, disjunction, next, release, operatorOf, rootIndex}
 use Rattle.closure.specs.declared.row.Row.{Row}
 use Rattle.closure.specs.Row.{known, turned, WithinAt, Within, ClearAt}
-use Rattle.closure.specs.Rules.{isEvery, row, aheadRow, backSteps, backEnd, andOutput, andInput, eitherRow, joinRelease, keptRow, keptSteps, openStarts, startKept, startRoot, constantRow}
+use Rattle.closure.specs.Rules.{isEvery, row, aheadRow, backSteps, backEnd, andOutput, andInput, eitherRow, joinRelease, newOf, keptRow, keptSteps, openStarts, startKept, startRoot, constantRow}
 use Rattle.closure.specs.Memory.{Knowledge}
 
 -- the states whose label has p
@@ -30,7 +30,8 @@ module _ (T : Table) (K : Knowledge) where
   abbrev pub aheadOf : Quantifier → Row → Row
   aheadOf q end = turned (isEvery q) (aheadRow (targetSet (T .steps)) (K .steps) (length (T .states)) (turned (isEvery q) end))
 
-  -- N at state s, known as `ahead` says, adds nothing to the steps out of s, nor to `end`
+  -- N at state s, known as `ahead` says, adds nothing to the steps out of s, nor to `end`. Where the ends themselves say what N is, it never does:
+  -- only what is known of N besides is taken back.
   pub record RestBack (q : Quantifier) (ahead end : Row) (s : ℕ) : Type 0 where
     pub steps : Within (backSteps (targetSet (T .steps) s) (K .steps s) (turned (isEvery q) end) (known (turned (isEvery q) ahead) true s) (known (turned (isEvery q) ahead) false s)) (K .steps s)
     pub ends : Within (backEnd (targetSet (T .steps) s) (K .steps s) (turned (isEvery q) end) (known (turned (isEvery q) ahead) true s) (known (turned (isEvery q) ahead) false s)) (turned (isEvery q) end)
@@ -66,7 +67,7 @@ module _ (T : Table) (K : Knowledge) where
     pub level : WithinAt s (joinRelease (K .levels i (suc m)) (K .nodes a) (K .nodes b) (aheadOf q (K .levels i m)) .level) (K .levels i (suc m))
     pub left : WithinAt s (joinRelease (K .levels i (suc m)) (K .nodes a) (K .nodes b) (aheadOf q (K .levels i m)) .a) (K .nodes a)
     pub right : WithinAt s (joinRelease (K .levels i (suc m)) (K .nodes a) (K .nodes b) (aheadOf q (K .levels i m)) .b) (K .nodes b)
-    pub back : RestBack q (joinRelease (K .levels i (suc m)) (K .nodes a) (K .nodes b) (aheadOf q (K .levels i m)) .ahead) (K .levels i m) s
+    pub back : RestBack q (joinRelease (K .levels i (suc m)) (K .nodes a) (K .nodes b) (aheadOf q (K .levels i m)) .more) (K .levels i m) s
     pub clear : ClearAt s (K .levels i (suc m))
 
   -- node i, whose operator is given, at state s
@@ -76,7 +77,7 @@ module _ (T : Table) (K : Knowledge) where
   RestNode i (negation a) s = RestSame (K .nodes i) (turned false (K .nodes a)) s
   RestNode i (conjunction a b) s = cond (eqb a b) (RestSame (K .nodes i) (K .nodes a) s) (RestBoth every i a b s)
   RestNode i (disjunction a b) s = cond (eqb a b) (RestSame (K .nodes i) (K .nodes a) s) (RestBoth some i a b s)
-  RestNode i (next q a) s = WithinAt s (aheadOf q (K .nodes a)) (K .nodes i) × RestBack q (K .nodes i) (K .nodes a) s
+  RestNode i (next q a) s = WithinAt s (aheadOf q (K .nodes a)) (K .nodes i) × RestBack q (newOf (K .nodes i) (aheadOf q (K .nodes a))) (K .nodes a) s
   RestNode i (release q a b) s = (m : ℕ) → m < length (T .states) → RestLevel q i a b m s
 
   pub record Rest : Type 0 where

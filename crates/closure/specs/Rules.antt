@@ -50,6 +50,15 @@ andOutput g a b = row (bitOr (g .yes) (bitAnd (a .yes) (b .yes))) (bitOr (g .no)
 abbrev pub andInput : Row → Row → Row
 andInput g other = row (g .yes) (bitAnd (g .no) (other .yes))
 
+-- ---- what is new
+
+-- what r knows that q does not
+abbrev pub newOf : Row → Row → Row
+newOf r q = row (without (r .yes) (q .yes)) (without (r .no) (q .no))
+
+abbrev pub isNone : Row → Bool
+isNone r = eqb (bitOr (r .yes) (r .no)) 0
+
 -- ---- a level of release: G = a or N, level = b and G
 
 -- G: true where a, N or the level is; false where both a and N are, or where the level is and b is true
@@ -62,13 +71,14 @@ eitherRow level a b ahead = row
 abbrev pub aheadWith : Row → Row → Row → Row
 aheadWith either a ahead = row (bitOr (ahead .yes) (bitAnd (either .yes) (a .no))) (bitOr (ahead .no) (either .no))
 
--- what the level, a and b get, and N; whether G or N is known both ways
+-- what the level, a and b get; N, and what of it the ends did not say already; whether G or N is known both ways
 abbrev pub joinWith : Row → Row → Row → Row → Row → Joined
 joinWith either level a b ahead = record {
   level = row (bitAnd (b .yes) (either .yes)) (bitOr (b .no) (either .no));
   a = row (bitAnd (either .yes) (ahead .no)) (either .no);
   b = row (level .yes) (bitAnd (level .no) (either .yes));
   ahead = aheadWith either a ahead;
+  more = newOf (aheadWith either a ahead) ahead;
   fails = clashes either || clashes (aheadWith either a ahead);
 }
 

@@ -15,7 +15,7 @@ use Rattle.closure.specs.declared.net.Net.{Net}
 use Rattle.closure.specs.declared.level.Fixpoint.{Fixpoint}
 use Rattle.closure.specs.declared.join.Joined.{Joined}
 use Rattle.closure.specs.Row.{turned}
-use Rattle.closure.specs.Rules.{isEvery, row, aheadRow, andOutput, andInput, joinRelease, keptRow, keptSteps, openStarts, startKept, startRoot, constantRow}
+use Rattle.closure.specs.Rules.{isEvery, row, newOf, isNone, aheadRow, andOutput, andInput, joinRelease, keptRow, keptSteps, openStarts, startKept, startRoot, constantRow}
 use Rattle.closure.specs.Memory.{Memory, rowAt, joined, reportOf, bothReports, stepPlace, nodePlace, keptPlace}
 use Rattle.closure.specs.Back.{quietReport, backRows, backRow, backReport}
 
@@ -75,6 +75,10 @@ module _ (targets : List ℕ) (n : ℕ) where
       })
       andThen addEnd (turned e (backRow targets (turned e ahead) (turned e end) (M .rows) n))
 
+  -- the same, where there is something to take back
+  abbrev pub goBackMore : Bool → Row → Row → (Row → Memory → Stepped) → Memory → Stepped
+  goBackMore e more end addEnd M = cond (isNone more) (failing false M) (goBack e more end addEnd M)
+
 -- ---- levels: level 0 is the row of b and level n that of the node; the others lie in the words from `base` on
 
 module _ (n : ℕ) (x : Fixpoint) where
@@ -99,7 +103,7 @@ module _ (targets : List ℕ) (n : ℕ) (x : Fixpoint) (m : ℕ) where
   joinedAt below M = joinRelease (levelAt n x (suc m) M) (nodeRow M (x .a)) (nodeRow M (x .b)) (aheadIn targets n (x .every) below M)
 
   abbrev pub levelWith : Row → Joined → Memory → Stepped
-  levelWith below J M = addJoined J M andThen goBack targets n (x .every) (J .ahead) below (addLevel n x m)
+  levelWith below J M = addJoined J M andThen goBackMore targets n (x .every) (J .more) below (addLevel n x m)
 
   unfoldable pub levelStep : Memory → Stepped
   levelStep M = levelWith (levelAt n x m M) (joinedAt (levelAt n x m M) M) M
@@ -127,7 +131,7 @@ bothStep i e a b M =
 abbrev pub nextStep : List ℕ → ℕ → ℕ → Bool → ℕ → Memory → Stepped
 nextStep targets n i e a M =
     addRow (nodePlace i) (aheadIn targets n e (nodeRow M a) M) M
-    andThen (λ M′. goBack targets n e (nodeRow M′ i) (nodeRow M a) (addRow (nodePlace a)) M′)
+    andThen (λ M′. goBackMore targets n e (newOf (nodeRow M′ i) (aheadIn targets n e (nodeRow M a) M)) (nodeRow M a) (addRow (nodePlace a)) M′)
 
 module _ (table targets bases : List ℕ) (n : ℕ) (down : Bool) (i : ℕ) where
   unfoldable pub nodeStep : Operator → Memory → Stepped

@@ -3,12 +3,13 @@ use crate::row::Row;
 ghost use mathlib.Core.Path.{_≡_};
 ghost use Rattle.closure.specs.Rules.{joinRelease};
 
-// What the level and the children a and b get, N with what G adds to it, and whether G or N is known both ways.
+// What the level and the children a and b get, N with what G adds to it, that alone, and whether G or N is known both ways.
 pub struct Joined {
     pub level: Row,
     pub a: Row,
     pub b: Row,
     pub ahead: Row,
+    pub more: Row,
     pub fails: bool,
 }
 
@@ -36,6 +37,10 @@ pub fn join_release(level: Row, a: Row, b: Row, ahead: Row) -> Joined
         ahead: Row {
             yes: ahead_yes,
             no: ahead_no,
+        },
+        more: Row {
+            yes: ahead_yes & !ahead.yes,
+            no: ahead_no & !ahead.no,
         },
         fails: either_yes & either_no != 0 || ahead_yes & ahead_no != 0,
     }

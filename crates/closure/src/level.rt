@@ -7,12 +7,13 @@ use crate::row::Report;
 use crate::row::Row;
 use crate::row::add;
 use crate::row::both;
+use crate::row::is_none;
 use crate::row::row_at;
 use crate::row::turn;
 ghost use mathlib.Core.Path.{_≡_};
 ghost use Prim.Native.Nat.{_+_, _*_, _-_, _≤_, _<_};
 ghost use lib.ListN.{length};
-ghost use Rattle.closure.specs.Sweep.{memory, stepped, goBack, levelAt, addLevel, addJoined, joinedAt, levelStep, levelsFrom};
+ghost use Rattle.closure.specs.Sweep.{memory, stepped, goBackMore, levelAt, addLevel, addJoined, joinedAt, levelStep, levelsFrom};
 ghost use Rattle.closure.specs.Setting.{Fits};
 
 // A fixed-point node: its number and children, whether it is of every path, and where its levels lie.
@@ -96,7 +97,7 @@ fn add_joined(
     both(second, add(rows, 64 + 2 * x.b, j.b))
 }
 
-// Back from N to the steps and the level below.
+// Back from N to the steps and the level below, with what is known of N beside what its ends say.
 fn level_back(
     targets: &[u32],
     rows: &mut [u32],
@@ -104,15 +105,21 @@ fn level_back(
     n: usize,
     x: Fixpoint,
     m: usize,
-    ahead: Row,
+    more: Row,
     below: Row,
 ) -> Report
     requires { ⌜ Fits n x (now rows) (now words) ⌝ }
     requires { ⌜ (m < n) × ((n ≤ 32) × (length (now targets) ≡ 32)) ⌝ }
-    ensures { λ q. ⌜ stepped (now (rows .exit)) (now (words .exit)) q ≡ goBack (now (targets .entry)) n (x .every) ahead below (addLevel n x m) (memory (now (rows .entry)) (now (words .entry))) ⌝ }
+    ensures { λ q. ⌜ stepped (now (rows .exit)) (now (words .exit)) q ≡ goBackMore (now (targets .entry)) n (x .every) more below (addLevel n x m) (memory (now (rows .entry)) (now (words .entry))) ⌝ }
 {
+    if is_none(more) {
+        return Report {
+            changed: false,
+            fails: false,
+        };
+    }
     let every = x.every;
-    let k = go_back(targets, rows, n, turn(every, ahead), turn(every, below));
+    let k = go_back(targets, rows, n, turn(every, more), turn(every, below));
     both(
         k.report,
         add_level(rows, words, n, x, m, turn(every, k.end)),
@@ -137,7 +144,7 @@ fn level_step(
     let first = add_joined(rows, words, n, x, m, j);
     both(
         first,
-        level_back(targets, rows, words, n, x, m, j.ahead, below),
+        level_back(targets, rows, words, n, x, m, j.more, below),
     )
 }
 

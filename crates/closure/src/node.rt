@@ -7,6 +7,8 @@ use crate::row::Report;
 use crate::row::Row;
 use crate::row::add;
 use crate::row::both;
+use crate::row::is_none;
+use crate::row::new_of;
 use crate::row::row_at;
 use crate::row::turn;
 use table::Node;
@@ -92,8 +94,11 @@ fn next_step(targets: &[u32], rows: &mut [u32], n: usize, i: usize, every: bool,
     let end = turn(every, row_at(rows, 64 + 2 * a));
     let up = turn(every, ahead(targets, rows, n, end));
     let first = add(rows, 64 + 2 * i, up);
-    let g = turn(every, row_at(rows, 64 + 2 * i));
-    let k = go_back(targets, rows, n, g, end);
+    let more = new_of(row_at(rows, 64 + 2 * i), up);
+    if is_none(more) {
+        return first;
+    }
+    let k = go_back(targets, rows, n, turn(every, more), end);
     both(
         first,
         both(k.report, add(rows, 64 + 2 * a, turn(every, k.end))),

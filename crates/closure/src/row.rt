@@ -3,6 +3,7 @@ ghost use mathlib.Core.Path.{_≡_};
 ghost use Prim.Native.Nat.{_+_, _<_};
 ghost use lib.ListN.{length};
 ghost use Rattle.closure.specs.Row.{turned, only, without};
+ghost use Rattle.closure.specs.Rules.{newOf, isNone};
 ghost use Rattle.closure.specs.Memory.{rowAt, joined, reportOf, bothReports};
 
 // The states where the variable is known true, and those where it is known false.
@@ -37,6 +38,23 @@ pub fn both(a: Report, b: Report) -> Report
         changed: a.changed | b.changed,
         fails: a.fails | b.fails,
     }
+}
+
+// What r knows that q does not.
+pub fn new_of(r: Row, q: Row) -> Row
+    ensures { λ x. ⌜ x ≡ newOf r q ⌝ }
+{
+    Row {
+        yes: r.yes & !q.yes,
+        no: r.no & !q.no,
+    }
+}
+
+// Whether the row knows nothing.
+pub fn is_none(r: Row) -> bool
+    ensures { λ x. ⌜ x ≡ isNone r ⌝ }
+{
+    r.yes | r.no == 0
 }
 
 // Whether the set has exactly one member.

@@ -1,5 +1,5 @@
--- `level_back` meets its contract: back to the steps, then to the level below.
-use mathlib.Core.Path.{ap, _∙_}
+-- `level_back` meets its contract: nothing where N knows nothing new, else back to the steps, then to the level below.
+use mathlib.Core.Path.{sym, ap, _∙_}
 use denote.Ref.{now}
 use Rattle.closure.specs.declared.row.Row.{Row}
 use Rattle.closure.specs.Row.{turned}
@@ -9,6 +9,12 @@ use Rattle.closure.proofs.Chain.{after}
 use borrow.Author.Needs.{needs}
 use Rattle.closure.proofs.level.level_back.Statement.{statement}
 use Rattle.closure.proofs.level.level_back.Tie as tie
+
+is-none-requires : tie.Need-is-none-requires
+is-none-requires c κs = search needs
+
+returns : tie.Need-returns
+returns c = simp (sym (c .before .is-none .ensures) ∙ c .if1 .taken)
 
 turn-requires : tie.Need-turn-requires
 turn-requires c κs = search needs
@@ -34,9 +40,9 @@ same-length c = search needs
 same-length-2 : tie.Need-same-length-2
 same-length-2 c = search needs
 
-returns : tie.Need-returns
-returns c =
-    let a = c .before .before .before .before .before .before .before .before .before .before .before .before .before .before .before .before .before .before .args in
+returns-2 : tie.Need-returns-2
+returns-2 c =
+    let a = c .before .before .before .before .before .before .before .before .before .before .before .before .before .before .before .before .before .before .before .before .args in
     let t = c .before .before .before .before .before .before .before .before .before .before .before .before .before .turn in
     let u = c .before .before .before .before .before .before .before .before .before .before .before .before .turn2 in
     let k = c .before .before .before .before .before .before .before .before .before .before .before .go-back in
@@ -44,20 +50,24 @@ returns c =
     let l = c .before .before .before .before .before .add-level in
     let T = now (a .targets) in
     let rows = now (a .rows) in
-    after {S = record { memory = memory (backRows T (turned (a .x .every) (a .ahead)) (turned (a .x .every) (a .below)) rows (a .n)) (now (a .words)); report = backReport T (turned (a .x .every) (a .ahead)) (turned (a .x .every) (a .below)) rows (a .n) }}
-    (addLevel (a .n) (a .x) (a .m) (turned (a .x .every) (backRow T (turned (a .x .every) (a .ahead)) (turned (a .x .every) (a .below)) rows (a .n))))
+    let e = a .x .every in
+    simp (sym (c .before .before .before .before .before .before .before .before .before .before .before .before .before .before .before .before .is-none .ensures) ∙ c .before .before .before .before .before .before .before .before .before .before .before .before .before .before .before .if1 .left)
+    (after {S = record { memory = memory (backRows T (turned e (a .more)) (turned e (a .below)) rows (a .n)) (now (a .words)); report = backReport T (turned e (a .more)) (turned e (a .below)) rows (a .n) }}
+    (addLevel (a .n) (a .x) (a .m) (turned e (backRow T (turned e (a .more)) (turned e (a .below)) rows (a .n))))
     (λ i. record {
       memory = memory ((k .ensures .1 .1 ∙ (λ j. backRows T (t .ensures j) (u .ensures j) rows (a .n))) i) (now (a .words));
       report = (k .ensures .1 .0 ∙ (λ j. backReport T (t .ensures j) (u .ensures j) rows (a .n))) i;
     })
     (l .ensures ∙ ap (λ (r : Row). addLevel (a .n) (a .x) (a .m) r (memory (k .last .1 .0) (now (a .words))))
-    (v .ensures ∙ ap (turned (a .x .every)) (k .ensures .0 ∙ (λ j. backRow T (t .ensures j) (u .ensures j) rows (a .n)))))
-    (c .both .ensures)
+    (v .ensures ∙ ap (turned e) (k .ensures .0 ∙ (λ j. backRow T (t .ensures j) (u .ensures j) rows (a .n)))))
+    (c .both .ensures))
 
 pub level-back-spec : {M : Type 1} → statement M
 level-back-spec =
     tie.close
     (tie.spec
+    is-none-requires
+    returns
     turn-requires
     turn-requires-2
     go-back-requires
@@ -66,4 +76,4 @@ level-back-spec =
     both-requires
     same-length
     same-length-2
-    returns)
+    returns-2)

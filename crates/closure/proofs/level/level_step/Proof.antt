@@ -3,7 +3,7 @@ use mathlib.Core.Path.{_≡_, ap, _∙_}
 use denote.Ref.{now}
 use Rattle.closure.specs.declared.row.Row.{Row}
 use Rattle.closure.specs.declared.join.Joined.{Joined}
-use Rattle.closure.specs.Sweep.{memory, goBack, levelAt, addLevel, addJoined, joinedAt, levelStep}
+use Rattle.closure.specs.Sweep.{memory, goBackMore, levelAt, addLevel, addJoined, joinedAt, levelStep}
 use Rattle.closure.proofs.Chain.{after, fits-on}
 use borrow.Author.Needs.{needs}
 use Rattle.closure.proofs.level.level_step.Statement.{statement}
@@ -46,9 +46,9 @@ returns c =
     let joins : j .result ≡ joinedAt T (a .n) (a .x) (a .m) (levelAt (a .n) (a .x) (a .m) M) M =
     j .ensures ∙ ap (λ (r : Row). joinedAt T (a .n) (a .x) (a .m) r M) (l .ensures) in
     after {S = addJoined T (a .n) (a .x) (a .m) (joinedAt T (a .n) (a .x) (a .m) (levelAt (a .n) (a .x) (a .m) M) M) M}
-    (goBack T (a .n) (a .x .every) (joinedAt T (a .n) (a .x) (a .m) (levelAt (a .n) (a .x) (a .m) M) M .ahead) (levelAt (a .n) (a .x) (a .m) M) (addLevel (a .n) (a .x) (a .m)))
+    (goBackMore T (a .n) (a .x .every) (joinedAt T (a .n) (a .x) (a .m) (levelAt (a .n) (a .x) (a .m) M) M .more) (levelAt (a .n) (a .x) (a .m) M) (addLevel (a .n) (a .x) (a .m)))
     (d .ensures ∙ ap (λ (r : Joined). addJoined T (a .n) (a .x) (a .m) r M) joins)
-    (k .ensures ∙ (λ i. goBack T (a .n) (a .x .every) (joins i .ahead) (l .ensures i) (addLevel (a .n) (a .x) (a .m)) (memory (d .last .0) (d .last .1 .0))))
+    (k .ensures ∙ (λ i. goBackMore T (a .n) (a .x .every) (joins i .more) (l .ensures i) (addLevel (a .n) (a .x) (a .m)) (memory (d .last .0) (d .last .1 .0))))
     (c .both .ensures)
 
 pub level-step-spec : {M : Type 1} → statement M

@@ -1,17 +1,24 @@
--- `next_step` meets its contract: N is added to the node, and what the node then says is taken back to the steps and to a.
-use mathlib.Core.Path.{_≡_, ap, _∙_}
+-- `next_step` meets its contract: N is added to the node, and what the node then knows beside it is taken back to the steps and to a.
+use mathlib.Core.Path.{_≡_, refl, sym, ap, _∙_}
+use mathlib.Core.Bool.{Bool, true, false, _||_, or-false}
 use native.Mathlib.Omega.{arith}
 use lib.ListN.{getD}
 use denote.Ref.{now}
+use Rattle.closure.specs.declared.row.Row.{Row}
+use Rattle.closure.specs.declared.row.Report.{Report}
 use Rattle.closure.specs.Row.{turned}
-use Rattle.closure.specs.Rules.{aheadRow}
-use Rattle.closure.specs.Memory.{rowAt, stepPlace, nodePlace}
-use Rattle.closure.specs.Back.{backRows, backRow, backReport}
-use Rattle.closure.specs.Sweep.{memory, stepped, addRow, nodeRow, goBack}
+use Rattle.closure.specs.Rules.{aheadRow, newOf, isNone}
+use Rattle.closure.specs.Memory.{rowAt, stepPlace, nodePlace, bothReports}
+use Rattle.closure.specs.Back.{quietReport, backRows, backRow, backReport}
+use Rattle.closure.specs.Sweep.{memory, stepped, addRow, nodeRow, goBackMore}
 use Rattle.closure.proofs.Chain.{added, after, after-add}
 use borrow.Author.Needs.{needs}
 use Rattle.closure.proofs.node.next_step.Statement.{statement}
 use Rattle.closure.proofs.node.next_step.Tie as tie
+
+-- a report with nothing after it
+quiet-after : (r : Report) → r ≡ bothReports r quietReport
+quiet-after r = λ i. record { changed = sym (or-false (r .changed)) i; fails = sym (or-false (r .fails)) i }
 
 mul-row-at : tie.Need-mul-row-at
 mul-row-at c = search needs
@@ -49,25 +56,58 @@ add-row-at-2 c = search needs
 row-at-requires-2 : tie.Need-row-at-requires-2
 row-at-requires-2 c κs = search needs
 
+new-of-requires : tie.Need-new-of-requires
+new-of-requires c κs = search needs
+
+is-none-requires : tie.Need-is-none-requires
+is-none-requires c κs = search needs
+
+same-length : tie.Need-same-length
+same-length c = search needs
+
+returns : tie.Need-returns
+returns c =
+    let a = c .before .before .before .before .before .before .before .before .before .before .before .before .before .before .before .before .before .args in
+    let x = c .before .before .before .before .before .before .before .before .before .before .before .before .before .row-at in
+    let t = c .before .before .before .before .before .before .before .before .before .before .before .before .turn in
+    let h = c .before .before .before .before .before .before .before .before .before .before .ahead in
+    let u = c .before .before .before .before .before .before .before .before .before .turn2 in
+    let d = c .before .before .before .before .before .before .before .add in
+    let g = c .before .before .before .row-at2 in
+    let w = c .before .before .new-of in
+    let z = c .before .is-none in
+    let T = now (a .targets) in
+    let rows = now (a .rows) in
+    let last = d .last .0 in
+    let N : Row = turned (a .every) (aheadRow (λ s. getD T s 0) (λ s. rowAt rows (stepPlace s)) (a .n) (turned (a .every) (rowAt rows (nodePlace (a .a))))) in
+    let end : t .result ≡ turned (a .every) (rowAt rows (nodePlace (a .a))) = t .ensures ∙ ap (turned (a .every)) (x .ensures) in
+    let up : u .result ≡ N = u .ensures ∙ ap (turned (a .every)) (h .ensures ∙ ap (aheadRow (λ s. getD T s 0) (λ s. rowAt rows (stepPlace s)) (a .n)) end) in
+    let more : w .result ≡ newOf (rowAt last (nodePlace (a .i))) N = w .ensures ∙ (λ j. newOf (g .ensures j) (up j)) in
+    let none : isNone (newOf (rowAt last (nodePlace (a .i))) N) ≡ true = ap isNone (sym more) ∙ sym (z .ensures) ∙ c .if1 .taken in
+    λ w. after (λ M. goBackMore T (a .n) (a .every) (newOf (nodeRow M (a .i)) N) (rowAt rows (nodePlace (a .a))) (addRow (nodePlace (a .a))) M)
+    (added rows (nodePlace (a .i)) up (d .ensures) w)
+    (simp none)
+    (quiet-after (d .result))
+
 turn-requires-3 : tie.Need-turn-requires-3
 turn-requires-3 c κs = search needs
 
 go-back-requires : tie.Need-go-back-requires
-go-back-requires c κs = let p = c .before .before .before .before .before .before .before .before .before .before .before .before .before .before .before .before .pre in (p .1 .0, (p .1 .1, c .before .before .before .before .before .before .add .kept .0 ∙ p .0 .1 .1))
+go-back-requires c κs = let p = c .before .before .before .before .before .before .before .before .before .before .before .before .before .before .before .before .before .before .before .pre in (p .1 .0, (p .1 .1, c .before .before .before .before .before .before .before .before .before .add .kept .0 ∙ p .0 .1 .1))
 
 mul-add-2 : tie.Need-mul-add-2
-mul-add-2 c = omega (arith, c .before .before .before .before .before .before .before .before .before .before .before .before .before .before .before .before .before .before .before .before .pre .0 .1 .0)
+mul-add-2 c = omega (arith, c .before .before .before .before .before .before .before .before .before .before .before .before .before .before .before .before .before .before .before .before .before .before .before .pre .0 .1 .0)
 
 add-add-2 : tie.Need-add-add-2
-add-add-2 c = omega (arith, c .before .before .before .before .before .before .before .before .before .before .before .before .before .before .before .before .before .before .before .before .pre .0 .1 .0)
+add-add-2 c = omega (arith, c .before .before .before .before .before .before .before .before .before .before .before .before .before .before .before .before .before .before .before .before .before .before .before .pre .0 .1 .0)
 
 turn-requires-4 : tie.Need-turn-requires-4
 turn-requires-4 c κs = search needs
 
 add-requires-2 : tie.Need-add-requires-2
 add-requires-2 c κs =
-    let p = c .before .before .before .before .before .before .before .before .before .before .before .before .before .before .before .before .before .before .before .before .before .pre in
-    omega (arith, p .0 .1 .0, p .0 .1 .1, c .before .before .before .before .go-back .kept .1 .0, c .before .before .before .before .before .before .before .before .before .before .before .add .kept .0)
+    let p = c .before .before .before .before .before .before .before .before .before .before .before .before .before .before .before .before .before .before .before .before .before .before .before .before .pre in
+    omega (arith, p .0 .1 .0, p .0 .1 .1, c .before .before .before .before .go-back .kept .1 .0, c .before .before .before .before .before .before .before .before .before .before .before .before .before .before .add .kept .0)
 
 both-requires : tie.Need-both-requires
 both-requires c κs = search needs
@@ -75,36 +115,40 @@ both-requires c κs = search needs
 both-requires-2 : tie.Need-both-requires-2
 both-requires-2 c κs = search needs
 
-same-length : tie.Need-same-length
-same-length c = c .before .before .before .before .add2 .kept .0 ∙ c .before .before .before .before .before .before .before .before .before .go-back .kept .1 .0 ∙ c .before .before .before .before .before .before .before .before .before .before .before .before .before .before .before .before .add .kept .0
+same-length-2 : tie.Need-same-length-2
+same-length-2 c = c .before .before .before .before .add2 .kept .0 ∙ c .before .before .before .before .before .before .before .before .before .go-back .kept .1 .0 ∙ c .before .before .before .before .before .before .before .before .before .before .before .before .before .before .before .before .before .before .before .add .kept .0
 
-returns : tie.Need-returns
-returns c =
-    let a = c .before .before .before .before .before .before .before .before .before .before .before .before .before .before .before .before .before .before .before .before .before .before .before .before .before .before .args in
-    let x = c .before .before .before .before .before .before .before .before .before .before .before .before .before .before .before .before .before .before .before .before .before .before .row-at in
-    let t = c .before .before .before .before .before .before .before .before .before .before .before .before .before .before .before .before .before .before .before .before .before .turn in
-    let h = c .before .before .before .before .before .before .before .before .before .before .before .before .before .before .before .before .before .before .before .ahead in
-    let u = c .before .before .before .before .before .before .before .before .before .before .before .before .before .before .before .before .before .before .turn2 in
-    let d = c .before .before .before .before .before .before .before .before .before .before .before .before .before .before .before .before .add in
-    let g = c .before .before .before .before .before .before .before .before .before .before .before .before .row-at2 in
-    let v = c .before .before .before .before .before .before .before .before .before .before .before .turn3 in
-    let k = c .before .before .before .before .before .before .before .before .before .go-back in
-    let y = c .before .before .before .before .before .turn4 in
-    let f = c .before .before .before .before .add2 in
+returns-2 : tie.Need-returns-2
+returns-2 c =
+    let a = c .before .before .before .before .before .before .before .before .before .before .before .before .before .before .before .before .before .before .before .before .before .before .before .before .before .before .before .before .before .args in
+    let x = c .before .before .before .before .before .before .before .before .before .before .before .before .before .before .before .before .before .before .before .before .before .before .before .before .before .row-at in
+    let t = c .before .before .before .before .before .before .before .before .before .before .before .before .before .before .before .before .before .before .before .before .before .before .before .before .turn in
+    let h = c .before .before .before .before .before .before .before .before .before .before .before .before .before .before .before .before .before .before .before .before .before .before .ahead in
+    let u = c .before .before .before .before .before .before .before .before .before .before .before .before .before .before .before .before .before .before .before .before .before .turn2 in
+    let d = c .before .before .before .before .before .before .before .before .before .before .before .before .before .before .before .before .before .before .before .add in
+    let g = c .before .before .before .before .before .before .before .before .before .before .before .before .before .before .before .row-at2 in
+    let w = c .before .before .before .before .before .before .before .before .before .before .before .before .before .before .new-of in
+    let z = c .before .before .before .before .before .before .before .before .before .before .before .before .before .is-none in
     let T = now (a .targets) in
     let rows = now (a .rows) in
     let last = d .last .0 in
+    let N : Row = turned (a .every) (aheadRow (λ s. getD T s 0) (λ s. rowAt rows (stepPlace s)) (a .n) (turned (a .every) (rowAt rows (nodePlace (a .a))))) in
     let end : t .result ≡ turned (a .every) (rowAt rows (nodePlace (a .a))) = t .ensures ∙ ap (turned (a .every)) (x .ensures) in
-    let N : v .result ≡ turned (a .every) (rowAt last (nodePlace (a .i))) = v .ensures ∙ ap (turned (a .every)) (g .ensures) in
-    let up : u .result ≡ turned (a .every) (aheadRow (λ s. getD T s 0) (λ s. rowAt rows (stepPlace s)) (a .n) (turned (a .every) (rowAt rows (nodePlace (a .a))))) =
-    u .ensures ∙ ap (turned (a .every)) (h .ensures ∙ ap (aheadRow (λ s. getD T s 0) (λ s. rowAt rows (stepPlace s)) (a .n)) end) in
-    λ w. after (λ M. goBack T (a .n) (a .every) (nodeRow M (a .i)) (rowAt rows (nodePlace (a .a))) (addRow (nodePlace (a .a))) M)
+    let up : u .result ≡ N = u .ensures ∙ ap (turned (a .every)) (h .ensures ∙ ap (aheadRow (λ s. getD T s 0) (λ s. rowAt rows (stepPlace s)) (a .n)) end) in
+    let more : w .result ≡ newOf (rowAt last (nodePlace (a .i))) N = w .ensures ∙ (λ j. newOf (g .ensures j) (up j)) in
+    let v = c .before .before .before .before .before .before .before .before .before .before .turn3 in
+    let k = c .before .before .before .before .before .before .before .before .before .go-back in
+    let y = c .before .before .before .before .before .turn4 in
+    let f = c .before .before .before .before .add2 in
+    let some : isNone (newOf (rowAt last (nodePlace (a .i))) N) ≡ false = ap isNone (sym more) ∙ sym (z .ensures) ∙ c .before .before .before .before .before .before .before .before .before .before .before .before .if1 .left in
+    let A : v .result ≡ turned (a .every) (newOf (rowAt last (nodePlace (a .i))) N) = v .ensures ∙ ap (turned (a .every)) more in
+    λ w. after (λ M. goBackMore T (a .n) (a .every) (newOf (nodeRow M (a .i)) N) (rowAt rows (nodePlace (a .a))) (addRow (nodePlace (a .a))) M)
     (added rows (nodePlace (a .i)) up (d .ensures) w)
-    (after-add (nodePlace (a .a))
-    (λ i. stepped ((k .ensures .1 .1 ∙ (λ j. backRows T (N j) (end j) last (a .n))) i) w ((k .ensures .1 .0 ∙ (λ j. backReport T (N j) (end j) last (a .n))) i))
-    (y .ensures ∙ ap (turned (a .every)) (k .ensures .0 ∙ (λ j. backRow T (N j) (end j) last (a .n))))
+    (simp some (after-add (nodePlace (a .a))
+    (λ i. stepped ((k .ensures .1 .1 ∙ (λ j. backRows T (A j) (end j) last (a .n))) i) w ((k .ensures .1 .0 ∙ (λ j. backReport T (A j) (end j) last (a .n))) i))
+    (y .ensures ∙ ap (turned (a .every)) (k .ensures .0 ∙ (λ j. backRow T (A j) (end j) last (a .n))))
     (f .ensures)
-    (c .before .both .ensures))
+    (c .before .both .ensures)))
     (c .both2 .ensures)
 
 pub next-step-spec : {M : Type 1} → statement M
@@ -123,6 +167,10 @@ next-step-spec =
     mul-row-at-2
     add-row-at-2
     row-at-requires-2
+    new-of-requires
+    is-none-requires
+    same-length
+    returns
     turn-requires-3
     go-back-requires
     mul-add-2
@@ -131,5 +179,5 @@ next-step-spec =
     add-requires-2
     both-requires
     both-requires-2
-    same-length
-    returns)
+    same-length-2
+    returns-2)
