@@ -73,7 +73,7 @@ fn sweep_once(
     )
 }
 
-// The closure of every set of step literals that the rows lie between it and its closure.
+// Works out the closure of every set of step literals P for which the rows lie between P and its closure.
 pub fn close(
     table: &[u8],
     net: Net,
