@@ -1,6 +1,7 @@
-/* Calls the fitter from C, on the sample tables and on damaged input, with guard entries around every buffer. Fails on any wrong number
- * or byte. */
+/* Calls the fitter from C, on the sample tables, on the largest and on damaged input. Every buffer, lent for reading or for writing, has exactly
+ * the size that the call is told, and lies at each of the places of lent.h in turn. Fails on any wrong number or byte. */
 #include "fitter.h"
+#include "lent.h"
 
 #include <stdio.h>
 #include <string.h>
@@ -31,46 +32,66 @@ static const char sheet[] =
     "from to\n0 1\n1 0\n1 2\n2 2\n"
     "kind a b\n0 0 0\n2 0 0\n9 0 1\n3 2 0\n8 0 3\n";
 
-enum { GUARD8 = 0xA5 };
-#define GUARD32 0xA5A5A5A5u
+/* What a word is before a call. */
+#define LENT32 0xA5A5A5A5u
+#define LENT64 0xA5A5A5A5A5A5A5A5u
 
-/* Label with room for so many entries: the answer, and every entry of the buffer and of its guards. */
+/* The first entries are these, and the others as they were. */
+static void expect_bytes(const char *what, const uint8_t *got, size_t room, const uint8_t *wanted, size_t count)
+{
+    for (size_t i = 0; i < room; i++)
+        expect(what, got[i], i < count ? wanted[i] : LENT);
+}
+
+static void expect_words(const char *what, const uint32_t *got, size_t room, const uint32_t *wanted, size_t count)
+{
+    for (size_t i = 0; i < room; i++)
+        expect(what, got[i], i < count ? wanted[i] : LENT32);
+}
+
+static unsigned judge(const uint8_t *table, size_t table_len, const uint8_t *list, size_t list_len)
+{
+    unsigned number = fitter_judge(lend_copy(table, table_len), table_len, lend_copy(list, list_len), list_len);
+    take_back();
+    return number;
+}
+
+/* Label with room for so many entries: the answer, and every entry of the buffer. */
 static void label(const char *what, const uint8_t *table, size_t table_len, const uint8_t *list, size_t list_len, size_t room,
                   unsigned wanted, const uint32_t *words, size_t count)
 {
-    uint32_t buffer[40];
-    for (size_t i = 0; i < 40; i++)
-        buffer[i] = GUARD32;
-    expect(what, fitter_label(table, table_len, list, list_len, buffer + 2, room), wanted);
-    for (size_t i = 0; i < 40; i++)
-        expect(what, buffer[i], i >= 2 && i < 2 + count ? words[i - 2] : GUARD32);
+    uint32_t *out = lend(room * sizeof *out);
+    expect(what, fitter_label(lend_copy(table, table_len), table_len, lend_copy(list, list_len), list_len, out, room), wanted);
+    expect_words(what, out, room, words, count);
+    take_back();
 }
 
 static void holding(const char *what, const uint8_t *table, size_t table_len, const uint8_t *list, size_t list_len, size_t room,
                     unsigned wanted, const uint8_t *states, size_t count)
 {
-    uint8_t buffer[40];
-    uint32_t counts[3] = {GUARD32, GUARD32, GUARD32};
-    memset(buffer, GUARD8, sizeof buffer);
-    expect(what, fitter_holding(table, table_len, list, list_len, buffer + 2, room, &counts[1]), wanted);
-    expect(what, counts[0], GUARD32);
-    expect(what, counts[1], wanted == 0 ? (uint32_t)count : GUARD32);
-    expect(what, counts[2], GUARD32);
-    for (size_t i = 0; i < 40; i++)
-        expect(what, buffer[i], i >= 2 && i < 2 + count ? states[i - 2] : GUARD8);
+    uint8_t *out = lend(room);
+    uint32_t *held = lend(sizeof *held);
+    expect(what, fitter_holding(lend_copy(table, table_len), table_len, lend_copy(list, list_len), list_len, out, room, held), wanted);
+    expect(what, *held, wanted == 0 ? (uint32_t)count : LENT32);
+    expect_bytes(what, out, room, states, count);
+    take_back();
 }
 
+/* Read: the answer, the length, and every byte of the buffer. */
+static void read_text(const char *what, const char *text, size_t text_len, size_t room, unsigned wanted, const uint8_t *table, size_t table_len)
+{
+    uint8_t *out = lend(room);
+    uint64_t *length = lend(sizeof *length);
+    expect(what, fitter_read(lend_copy(text, text_len), text_len, out, room, length), wanted);
+    expect(what, *length == (wanted == 0 ? table_len : LENT64), 1);
+    expect_bytes(what, out, room, table, wanted == 0 ? table_len : 0);
+    take_back();
+}
+
+/* Read, where it can only give the sample table. */
 static void read_sheet(const char *what, const char *text, size_t text_len, size_t room, unsigned wanted)
 {
-    uint8_t buffer[48];
-    uint64_t length[3] = {GUARD32, GUARD32, GUARD32};
-    size_t written = wanted == 0 ? 36 : 0;
-    memset(buffer, GUARD8, sizeof buffer);
-    expect(what, fitter_read((const uint8_t *)text, text_len, buffer + 2, room, &length[1]), wanted);
-    expect(what, length[0] == GUARD32 && length[2] == GUARD32, 1);
-    expect(what, (unsigned)length[1], wanted == 0 ? 36 : GUARD32);
-    for (size_t i = 0; i < 48; i++)
-        expect(what, buffer[i], i >= 2 && i < 2 + written ? sample[i - 2] : GUARD8);
+    read_text(what, text, text_len, room, wanted, sample, 36);
 }
 
 static void sheets(void)
@@ -95,12 +116,12 @@ static void samples(void)
 {
     static const uint8_t kept[4] = {1, 1, 0, 1}, cut[4] = {1, 1, 0, 0}, all[4] = {1, 1, 1, 1};
     static const uint8_t dead[4] = {1, 1, 1, 0}, far[4] = {0, 0, 0, 1}, none[4] = {0, 0, 0, 0};
-    expect("judge 1 1 0 1", fitter_judge(sample, 36, kept, 4), 0);
-    expect("judge 1 1 0 0", fitter_judge(sample, 36, cut, 4), 0);
-    expect("judge 1 1 1 1", fitter_judge(sample, 36, all, 4), 13);
-    expect("judge 1 1 1 0", fitter_judge(sample, 36, dead, 4), 11);
-    expect("judge 0 0 0 1", fitter_judge(sample, 36, far, 4), 12);
-    expect("judge 0 0 0 0", fitter_judge(sample, 36, none, 4), 12);
+    expect("judge 1 1 0 1", judge(sample, 36, kept, 4), 0);
+    expect("judge 1 1 0 0", judge(sample, 36, cut, 4), 0);
+    expect("judge 1 1 1 1", judge(sample, 36, all, 4), 13);
+    expect("judge 1 1 1 0", judge(sample, 36, dead, 4), 11);
+    expect("judge 0 0 0 1", judge(sample, 36, far, 4), 12);
+    expect("judge 0 0 0 0", judge(sample, 36, none, 4), 12);
 
     /* p0 at states 1 and 2; an endless stretch of it only from the loop at 2; so the rule holds at 0 and 1. */
     static const uint32_t words[5] = {0, 6, 4, 3, 3};
@@ -118,7 +139,7 @@ static void samples(void)
 /* The same damage to each of the three calls. */
 static void damaged(const char *what, const uint8_t *table, size_t table_len, const uint8_t *list, size_t list_len, unsigned wanted)
 {
-    expect(what, fitter_judge(table, table_len, list, list_len), wanted);
+    expect(what, judge(table, table_len, list, list_len), wanted);
     label(what, table, table_len, list, list_len, 32, wanted, NULL, 0);
     holding(what, table, table_len, list, list_len, 32, wanted, NULL, 0);
 }
@@ -143,7 +164,7 @@ static void refusals(void)
             uint8_t table[36];
             memcpy(table, sample, 36);
             table[at] = (uint8_t)value;
-            unsigned number = fitter_judge(table, 36, list, 4);
+            unsigned number = judge(table, 36, list, 4);
             expect("a byte changed: a number of the judge's", number <= 13 && number != 1 && number != 10, 1);
         }
 }
@@ -160,7 +181,8 @@ struct repaired {
     size_t list_len, variables;
 };
 
-enum { ROOM = 256 };
+/* A room with some to spare; the bytes and the variables of the largest table. */
+enum { ROOM = 256, LARGEST = 452, VARIABLES = 223392 };
 
 static struct repaired found(uint64_t choices, const uint8_t *list, size_t list_len, size_t variables)
 {
@@ -177,31 +199,31 @@ static struct repaired stopped(unsigned number, uint64_t choices, size_t variabl
 
 static struct repaired refused(unsigned number)
 {
-    struct repaired wanted = {number, GUARD32, NULL, 0, 0};
+    struct repaired wanted = {number, LENT64, NULL, 0, 0};
     return wanted;
 }
 
-/* Repair: the answer, the choices, and every entry of the three buffers and of their guards. */
+/* So many entries are 0, and the others as they were. */
+static void expect_zeros(const char *what, const uint8_t *bytes, const uint32_t *words, struct room room, size_t zeros)
+{
+    for (size_t i = 0; i < room.bytes; i++)
+        expect(what, bytes[i], i < zeros ? 0 : LENT);
+    for (size_t i = 0; i < room.words; i++)
+        expect(what, words[i], i < zeros ? 0 : LENT32);
+}
+
+/* Repair: the answer, the choices, and every entry of the three buffers. */
 static void repair(const char *what, const uint8_t *table, size_t table_len, uint64_t cap, struct room room, struct repaired wanted)
 {
-    uint8_t list[ROOM + 4], bytes[ROOM + 4], list_after[ROOM + 4], bytes_after[ROOM + 4];
-    uint32_t words[ROOM + 4], words_after[ROOM + 4];
-    uint64_t choices[3] = {GUARD32, GUARD32, GUARD32};
-    memset(list, GUARD8, sizeof list);
-    memset(bytes, GUARD8, sizeof bytes);
-    memset(words, GUARD8, sizeof words);
-    memcpy(list_after, list, sizeof list);
-    memcpy(bytes_after, bytes, sizeof bytes);
-    memcpy(words_after, words, sizeof words);
-    for (size_t i = 0; i < wanted.list_len; i++)
-        list_after[2 + i] = wanted.list[i];
-    for (size_t i = 0; i < wanted.variables; i++)
-        bytes_after[2 + i] = 0, words_after[2 + i] = 0;
-    expect(what, fitter_repair(table, table_len, cap, list + 2, room.list, bytes + 2, room.bytes, words + 2, room.words, &choices[1]), wanted.number);
-    expect(what, choices[0] == GUARD32 && choices[1] == wanted.choices && choices[2] == GUARD32, 1);
-    expect(what, memcmp(list, list_after, sizeof list) == 0, 1);
-    expect(what, memcmp(bytes, bytes_after, sizeof bytes) == 0, 1);
-    expect(what, memcmp(words, words_after, sizeof words) == 0, 1);
+    uint8_t *list = lend(room.list), *bytes = lend(room.bytes);
+    uint32_t *words = lend(room.words * sizeof *words);
+    uint64_t *choices = lend(sizeof *choices);
+    const uint8_t *copy = lend_copy(table, table_len);
+    expect(what, fitter_repair(copy, table_len, cap, list, room.list, bytes, room.bytes, words, room.words, choices), wanted.number);
+    expect(what, *choices == wanted.choices, 1);
+    expect_bytes(what, list, room.list, wanted.list, wanted.list_len);
+    expect_zeros(what, bytes, words, room, wanted.variables);
+    take_back();
 }
 
 /* With as much room as needed, with more, and with one entry too few of each buffer. */
@@ -236,6 +258,19 @@ static size_t many_steps(uint8_t *table, unsigned steps)
     return at + 3;
 }
 
+/* No list at all is lent where there is no step. */
+static void repair_no_list(const uint8_t *no_step)
+{
+    uint8_t *bytes = lend(2);
+    uint32_t *words = lend(2 * sizeof *words);
+    uint64_t *choices = lend(sizeof *choices);
+    struct room room = {0, 2, 2};
+    expect("repair with no list", fitter_repair(lend_copy(no_step, 10), 10, 0, NULL, 0, bytes, 2, words, 2, choices), 14);
+    expect("repair with no list: choices", *choices == 0, 1);
+    expect_zeros("repair with no list: buffers", bytes, words, room, 2);
+    take_back();
+}
+
 static void repairs(void)
 {
     static const uint8_t kept[4] = {1, 1, 0, 1}, first[2] = {1, 0}, loop[1] = {1};
@@ -256,13 +291,7 @@ static void repairs(void)
     repairs_at("repair with two initial states", starts, 17, 0, found(0, first, 2, 6));
     repairs_at("repair a dead end", dead_end, 15, 0, stopped(14, 0, 5));
     repairs_at("repair with no step", no_step, 10, 0, stopped(14, 0, 2));
-
-    /* No list at all is lent where there is no step. */
-    uint8_t bytes[2] = {1, 1};
-    uint32_t words[2] = {1, 1};
-    uint64_t choices = 1;
-    expect("repair with no list", fitter_repair(no_step, 10, 0, NULL, 0, bytes, 2, words, 2, &choices), 14);
-    expect("repair with no list: choices", (unsigned)choices, 0);
+    repair_no_list(no_step);
 
     uint8_t table[301], all[128];
     memset(all, 1, sizeof all);
@@ -272,6 +301,75 @@ static void repairs(void)
     repairs_at("repair 128 steps, cap 127", table, len, 127, stopped(15, 127, 152));
     len = many_steps(table, 129);
     repair("repair 129 steps", table, len, 128, room, refused(3));
+}
+
+/* 32 states, 128 steps and 32 nodes: "true", and over it 31 times "true releases", which is true. */
+static void largest(uint8_t *table)
+{
+    const uint8_t counts[4] = {32, 128, 32, 0}, first[3] = {1, 0, 0};
+    memset(table, 0, LARGEST);
+    memcpy(table, counts, 4);
+    table[4] = 1;
+    for (unsigned j = 0; j < 128; j++) {
+        table[100 + 2 * j] = (uint8_t)(j % 32);
+        table[101 + 2 * j] = (uint8_t)(j / 32);
+    }
+    memcpy(table + 356, first, 3);
+    for (unsigned i = 1; i < 32; i++) {
+        table[356 + 3 * i] = 8;
+        table[358 + 3 * i] = (uint8_t)(i - 1);
+    }
+}
+
+/* A line of these values. */
+static size_t put_values(char *text, const uint8_t *values, size_t count)
+{
+    size_t at = 0;
+    for (size_t i = 0; i < count; i++)
+        at += (size_t)sprintf(text + at, i + 1 < count ? "%u " : "%u\n", values[i]);
+    return at;
+}
+
+/* The largest table as a sheet. No state has a label. */
+static size_t largest_sheet(const uint8_t *table, char *text)
+{
+    size_t at = (size_t)sprintf(text, "states edges nodes props\n");
+    at += put_values(text + at, table, 4);
+    at += (size_t)sprintf(text + at, "initial label\n");
+    for (size_t s = 0; s < 32; s++)
+        at += put_values(text + at, table + 4 + 3 * s, 2);
+    at += (size_t)sprintf(text + at, "from to\n");
+    for (size_t j = 0; j < 128; j++)
+        at += put_values(text + at, table + 100 + 2 * j, 2);
+    at += (size_t)sprintf(text + at, "kind a b\n");
+    for (size_t i = 0; i < 32; i++)
+        at += put_values(text + at, table + 356 + 3 * i, 3);
+    return at;
+}
+
+/* The largest table, with the most variables that there are. */
+static void largest_calls(void)
+{
+    uint8_t table[LARGEST], all[128], states[32];
+    uint32_t words[32];
+    char text[4096];
+    largest(table);
+    memset(all, 1, sizeof all);
+    memset(words, 0xFF, sizeof words);
+    for (unsigned s = 0; s < 32; s++)
+        states[s] = (uint8_t)s;
+    expect("judge the largest table", judge(table, LARGEST, all, 128), 0);
+    label("label the largest table", table, LARGEST, all, 128, 32, 0, words, 32);
+    label("label the largest table, one entry short", table, LARGEST, all, 128, 31, 10, words, 0);
+    holding("holding of the largest table", table, LARGEST, all, 128, 32, 0, states, 32);
+    holding("holding of the largest table, one byte short", table, LARGEST, all, 128, 31, 10, states, 0);
+    struct room needed = {128, VARIABLES, VARIABLES}, short_by_one = {128, VARIABLES, VARIABLES - 1};
+    repair("repair the largest table", table, LARGEST, 128, needed, found(128, all, 128, VARIABLES));
+    repair("repair the largest table, cap 127", table, LARGEST, 127, needed, stopped(15, 127, VARIABLES));
+    repair("repair the largest table, one word short", table, LARGEST, 128, short_by_one, refused(10));
+    size_t text_len = largest_sheet(table, text);
+    read_text("read the largest sheet", text, text_len, LARGEST, 0, table, LARGEST);
+    read_text("read the largest sheet, one byte short", text, text_len, LARGEST - 1, 10, table, LARGEST);
 }
 
 /* Repair gives the refusal's number whatever is lent, and touches nothing. */
@@ -318,19 +416,29 @@ static void repair_refusals(void)
             uint8_t table[36];
             memcpy(table, sample, 36);
             table[at] = (uint8_t)value;
-            unsigned number = fitter_judge(table, 36, list, 4);
+            unsigned number = judge(table, 36, list, 4);
             if (number >= 2 && number <= 8)
                 repair_damaged("repair with a byte changed", table, 36, number);
         }
 }
 
-int main(void)
+static void all_calls(void)
 {
     sheets();
     samples();
     refusals();
     repairs();
+    largest_calls();
     repair_refusals();
+}
+
+int main(void)
+{
+    expect("pages stop reads", (unsigned)pages_stop_reads(), 1);
+    for (enum place place = ON_HEAP; place <= AFTER_PAGE; place++) {
+        lend_at(place);
+        all_calls();
+    }
     printf("c calls: %d checks, %d failures\n", checks, failures);
     return failures != 0;
 }

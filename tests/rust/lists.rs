@@ -1,28 +1,8 @@
-// Runs every vector of tests/data/lists.bin through Judge, Label and Holding, and compares all buffers, with guard entries around them.
+// Runs every line of tests/data/lists.tsv through Judge, Label and Holding, and compares all buffers, with guard entries around them.
 //
-// A vector: lengths of table and list (two bytes each, low byte first), table, list; the numbers of Judge, Label and Holding; how many words
-// Label gives and how many states Holding gives; the words (four bytes each, low byte first), the states.
+// A line: table, list, Judge's number; Label's number and its words; Holding's number, how many states it gives, and the states.
 mod fitter;
-
-struct Reader {
-    bytes: Vec<u8>,
-    at: usize,
-}
-
-impl Reader {
-    fn take(&mut self, n: usize) -> Vec<u8> {
-        self.at += n;
-        self.bytes[self.at - n..self.at].to_vec()
-    }
-
-    fn byte(&mut self) -> usize {
-        self.take(1)[0] as usize
-    }
-
-    fn short(&mut self) -> usize {
-        self.byte() + 256 * self.byte()
-    }
-}
+mod vectors;
 
 const GUARD: u32 = 0xA5A5A5A5;
 
@@ -60,24 +40,16 @@ fn holding_agrees(table: &[u8], list: &[u8], number: u32, states: &[u8]) -> bool
     })
 }
 
+fn line_agrees(columns: &[String]) -> bool {
+    let [table, list, judge, label, words, holding, count, states] = columns else { return false };
+    let (table, list, states) = (vectors::bytes(table), vectors::bytes(list), vectors::bytes(states));
+    let (label, holding) = (vectors::number(label), vectors::number(holding));
+    fitter::judge(&table, &list) == vectors::number(judge)
+        && label_agrees(&table, &list, label, &vectors::numbers(words))
+        && holding_agrees(&table, &list, holding, &states)
+        && (holding != 0 || vectors::number(count) as usize == states.len())
+}
+
 fn main() {
-    let path = std::env::args().nth(1).expect("the file of vectors");
-    let mut reader = Reader { bytes: std::fs::read(path).expect("the vectors"), at: 0 };
-    let (mut vectors, mut agreed) = (0, 0);
-    while reader.at < reader.bytes.len() {
-        let (table_len, list_len) = (reader.short(), reader.short());
-        let (table, list) = (reader.take(table_len), reader.take(list_len));
-        let (judge, label, holding) = (reader.byte() as u32, reader.byte() as u32, reader.byte() as u32);
-        let (words_len, states_len) = (reader.byte(), reader.byte());
-        let words: Vec<u32> = (0..words_len).map(|_| reader.short() as u32 + 65536 * reader.short() as u32).collect();
-        let states = reader.take(states_len);
-        vectors += 1;
-        if fitter::judge(&table, &list) == judge && label_agrees(&table, &list, label, &words) && holding_agrees(&table, &list, holding, &states) {
-            agreed += 1;
-        } else {
-            println!("vector {} differs", vectors);
-        }
-    }
-    println!("lists: {} vectors, {} agreed", vectors, agreed);
-    std::process::exit(if vectors == 4872 && agreed == vectors { 0 } else { 1 });
+    vectors::run("lists", 4872, line_agrees)
 }

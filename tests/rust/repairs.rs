@@ -1,9 +1,10 @@
 // Runs every line of tests/data/tables.tsv through Repair, and compares the number, the choices and every entry of the three buffers, with
 // guard entries around them. Where a table is accepted, the plain search over explicit clauses must agree too, and so must the judge.
 //
-// A line: table, refusal (0: none), variables, cap, answer, choices, list. Bytes are in hex, `-` stands for empty or none.
+// A line: table, refusal (0: none), variables, cap, answer, choices, list.
 mod clauses;
 mod fitter;
+mod vectors;
 
 struct Vector {
     table: Vec<u8>,
@@ -12,13 +13,6 @@ struct Vector {
     cap: u64,
     choices: u64,
     list: Vec<u8>,
-}
-
-fn bytes_of(hex: &str) -> Vec<u8> {
-    if hex == "-" {
-        return vec![];
-    }
-    (0..hex.len() / 2).map(|i| u8::from_str_radix(&hex[2 * i..2 * i + 2], 16).expect("hex")).collect()
 }
 
 // The number that C gets for an answer.
@@ -31,15 +25,14 @@ fn number_of(refusal: &str, answer: &str) -> u32 {
     }
 }
 
-fn vector(line: &str) -> Vector {
-    let c: Vec<&str> = line.split('\t').collect();
+fn vector(columns: &[String]) -> Vector {
     Vector {
-        table: bytes_of(c[0]),
-        number: number_of(c[1], c[4]),
-        variables: c[2].parse().unwrap_or(0),
-        cap: c[3].parse().unwrap_or(0),
-        choices: c[5].parse().unwrap_or(0),
-        list: bytes_of(c[6]),
+        table: vectors::bytes(&columns[0]),
+        number: number_of(&columns[1], &columns[4]),
+        variables: columns[2].parse().unwrap_or(0),
+        cap: columns[3].parse().unwrap_or(0),
+        choices: columns[5].parse().unwrap_or(0),
+        list: vectors::bytes(&columns[6]),
     }
 }
 
@@ -121,26 +114,15 @@ fn plain_agrees(v: &Vector) -> bool {
     net.variables == v.variables && clauses::search(&net, v.cap) == wanted
 }
 
-fn vector_agrees(v: &Vector) -> bool {
+fn line_agrees(columns: &[String]) -> bool {
+    let v = vector(columns);
     if [0, 14, 15].contains(&v.number) {
-        accepted_agrees(v) && judge_agrees(v) && plain_agrees(v)
+        accepted_agrees(&v) && judge_agrees(&v) && plain_agrees(&v)
     } else {
-        refused_agrees(v)
+        refused_agrees(&v)
     }
 }
 
 fn main() {
-    let path = std::env::args().nth(1).expect("the file of vectors");
-    let text = std::fs::read_to_string(path).expect("the vectors");
-    let vectors: Vec<Vector> = text.lines().skip(1).map(vector).collect();
-    let mut agreed = 0;
-    for (k, v) in vectors.iter().enumerate() {
-        if vector_agrees(v) {
-            agreed += 1;
-        } else {
-            println!("line {} differs", k + 2);
-        }
-    }
-    println!("repairs: {} of {} agree", agreed, vectors.len());
-    std::process::exit(if vectors.len() == 3843 && agreed == vectors.len() { 0 } else { 1 });
+    vectors::run("repairs", 3843, line_agrees)
 }

@@ -1,6 +1,7 @@
-// Runs every vector of tests/data/sheets.bin through Read, and compares the number, the length and every byte of the buffer, with guard bytes
-// around it. A vector: the length of the text (two bytes, low byte first), Read's number, the text.
+// Runs every line of tests/data/sheets.tsv through Read, and compares the number, the length and every byte of the buffer, with guard bytes
+// around it. A line: the text, Read's number.
 mod fitter;
+mod vectors;
 
 const GUARD: u8 = 0xA5;
 
@@ -36,35 +37,29 @@ fn agrees(text: &[u8], room: usize, wanted: u32, bytes: &[u8]) -> bool {
         && (0..buffer.len()).all(|i| buffer[i] == if i >= 2 && i < 2 + written.len() { written[i - 2] } else { GUARD })
 }
 
-fn main() {
-    let path = std::env::args().nth(1).expect("the file of vectors");
-    let file = std::fs::read(path).expect("the vectors");
-    let (mut at, mut vectors, mut agreed) = (0, 0, 0);
-    while at < file.len() {
-        let len = file[at] as usize + 256 * file[at + 1] as usize;
-        let number = file[at + 2] as u32;
-        let text = &file[at + 3..at + 3 + len];
-        at += 3 + len;
-        vectors += 1;
-        let good = if number == 0 {
-            let bytes = packed(text);
-            let cut = &text[..text.len() - 1];
-            let more = [text, b"\n"].concat();
-            agrees(text, bytes.len(), 0, &bytes)
-                && agrees(text, bytes.len() + 9, 0, &bytes)
-                && agrees(text, bytes.len() - 1, 10, &bytes)
-                && agrees(text, 0, 10, &bytes)
-                && agrees(cut, 452, 1, &bytes)
-                && agrees(&more, 452, 1, &bytes)
-        } else {
-            agrees(text, 452, number, &[]) && agrees(text, 0, number, &[])
-        };
-        if good {
-            agreed += 1;
-        } else {
-            println!("vector {} differs", vectors);
-        }
+// With as much room as needed, with more and with less; and the text a byte short, and one line long.
+fn sheet_agrees(text: &[u8]) -> bool {
+    let bytes = packed(text);
+    let cut = &text[..text.len() - 1];
+    let more = [text, b"\n"].concat();
+    agrees(text, bytes.len(), 0, &bytes)
+        && agrees(text, bytes.len() + 9, 0, &bytes)
+        && agrees(text, bytes.len() - 1, 10, &bytes)
+        && agrees(text, 0, 10, &bytes)
+        && agrees(cut, 452, 1, &bytes)
+        && agrees(&more, 452, 1, &bytes)
+}
+
+fn line_agrees(columns: &[String]) -> bool {
+    let [text, number, _] = columns else { return false };
+    let (text, number) = (vectors::bytes(text), vectors::number(number));
+    if number == 0 {
+        sheet_agrees(&text)
+    } else {
+        agrees(&text, 452, number, &[]) && agrees(&text, 0, number, &[])
     }
-    println!("sheets: {} vectors, {} agreed", vectors, agreed);
-    std::process::exit(if vectors == 540 && agreed == vectors { 0 } else { 1 });
+}
+
+fn main() {
+    vectors::run("sheets", 540, line_agrees)
 }

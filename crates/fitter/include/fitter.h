@@ -1,7 +1,10 @@
 /* The step-table fitter, for C. Link libfitter.a (see the README).
  *
  * Every call answers 0, or the number of its refusal, and then it has written nothing; fitter_repair answers 14 and 15 besides. No call
- * needs its input checked before: any bytes of any length are safe. A buffer may be NULL only where its length is 0. */
+ * needs its input checked before: any bytes of any length are safe. A buffer may be NULL only where its length is 0.
+ *
+ * The library keeps no state: calls may be made from several threads at once, each with buffers of its own to write to. The buffers of one
+ * call, and what it stores through a pointer, must not overlap. */
 #ifndef FITTER_H
 #define FITTER_H
 

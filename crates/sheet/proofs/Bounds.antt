@@ -15,7 +15,7 @@ use Rattle.sheet.proofs.Number.{low-length, high-length}
 use Rattle.sheet.proofs.Parts.{from-states-names, from-steps-names, from-nodes-names, render-parts}
 
 -- a number ten times as large has at most one digit more
-more-digits : (limit n : ℕ) → ((w : ℕ) → w < limit → length (decimal w) ≤ n) → (v : ℕ) → v < 10 * limit → length (decimal v) ≤ n + 1
+pub more-digits : (limit n : ℕ) → ((w : ℕ) → w < limit → length (decimal w) ≤ n) → (v : ℕ) → v < 10 * limit → length (decimal v) ≤ n + 1
 more-digits limit n few v h =
     elim (decLt v 10) [
       | yes low ↦ omega (arith, low-length v low)
@@ -29,7 +29,7 @@ byte-digits v h = more-digits 100 2 (more-digits 10 1 (λ w k. le-of-eq (low-len
 word-digits : (v : ℕ) → v ≤ 65535 → length (decimal v) ≤ 5
 word-digits v h = more-digits 10000 4 (more-digits 1000 3 (more-digits 100 2 (more-digits 10 1 (λ w k. le-of-eq (low-length w k))))) v (omega arith)
 
-ended-length : (stop v : ℕ) → length (ended stop v) ≡ length (decimal v) + 1
+pub ended-length : (stop v : ℕ) → length (ended stop v) ≡ length (decimal v) + 1
 ended-length stop v = length-append (decimal v) (stop ∷ [])
 
 state-line-length : (s : State) → StateInRange s → length (stateLine s) ≤ 10

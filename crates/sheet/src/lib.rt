@@ -18,5 +18,9 @@ mod writer;
 
 pub use answer::Read;
 pub use answer::Rendered;
+pub use emit::put_bytes;
+pub use emit::put_field;
+pub use field::NEWLINE;
 pub use reader::read;
+pub use write_line::write_triple;
 pub use writer::render_table;

@@ -6,7 +6,8 @@ use table::Counts;
 use table::Node;
 use table::State;
 use table::Step;
-ghost use Rattle.sheet.specs.Form.{countsLine, stateLine, stepLine, nodeLine};
+ghost use mathlib.Core.List.{[], _∷_};
+ghost use Rattle.sheet.specs.Form.{line, countsLine, stateLine, stepLine, nodeLine};
 ghost use Rattle.sheet.specs.Render.{Room, Stored};
 
 pub fn write_counts(text: &mut [u8], at: usize, c: Counts) -> usize
@@ -39,7 +40,15 @@ pub fn write_node(text: &mut [u8], at: usize, x: Node) -> usize
     requires { ⌜ Room (now text) at (nodeLine x) ⌝ }
     ensures { λ r. ⌜ Stored (now (text .entry)) at (nodeLine x) (now (text .exit)) r ⌝ }
 {
-    let second = put_field(text, at, x.kind, SPACE);
-    let third = put_field(text, second, x.a, SPACE);
-    put_field(text, third, x.b, NEWLINE)
+    write_triple(text, at, x.kind, x.a, x.b)
+}
+
+// A line of any three values.
+pub fn write_triple(text: &mut [u8], at: usize, a: usize, b: usize, c: usize) -> usize
+    requires { ⌜ Room (now text) at (line (a ∷ b ∷ c ∷ [])) ⌝ }
+    ensures { λ r. ⌜ Stored (now (text .entry)) at (line (a ∷ b ∷ c ∷ [])) (now (text .exit)) r ⌝ }
+{
+    let second = put_field(text, at, a, SPACE);
+    let third = put_field(text, second, b, SPACE);
+    put_field(text, third, c, NEWLINE)
 }

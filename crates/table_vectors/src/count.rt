@@ -1,20 +1,16 @@
-// How many vectors there were and how many agreed, by expected number and in all.
+// How many vectors there were and how many agreed, by expected number and in all, and with how many accepted tables the count of
+// variables agreed.
 pub struct Count {
     pub vectors: u64,
     pub agreed: u64,
 }
 
-// Once the input has ended, or a record was out of form, nothing more is read.
-pub enum Input {
-    Open,
-    Ended,
-    OutOfForm,
-}
-
 pub struct Tally {
     pub by_number: [Count; 16],
     pub all: Count,
-    pub input: Input,
+    pub variables: Count,
+    // a line was out of form, and nothing more is read
+    pub broken: bool,
 }
 
 pub fn no_vectors() -> Tally {
@@ -25,11 +21,12 @@ pub fn no_vectors() -> Tally {
     Tally {
         by_number: [none; 16],
         all: none,
-        input: Input::Open,
+        variables: none,
+        broken: false,
     }
 }
 
-// There are too few records for a count to wrap.
+// There are too few vectors for a count to wrap.
 fn one_more(c: Count, agrees: bool) -> Count {
     let mut next = c;
     next.vectors = std::num::wrapping_add_u64(c.vectors, 1);
@@ -42,7 +39,7 @@ fn one_more(c: Count, agrees: bool) -> Count {
 // Counts one vector of this expected number. No refusal has a number above 15.
 pub fn with_vector(t: Tally, number: usize, agrees: bool) -> Tally {
     if 15 < number {
-        return with_input(t, Input::OutOfForm);
+        return out_of_form(t);
     }
     let mut next = t;
     let of_number = t.by_number[number];
@@ -52,12 +49,15 @@ pub fn with_vector(t: Tally, number: usize, agrees: bool) -> Tally {
     next
 }
 
-pub fn with_input(t: Tally, input: Input) -> Tally {
-    let by_number = t.by_number;
-    let all = t.all;
-    Tally {
-        by_number: by_number,
-        all: all,
-        input: input,
-    }
+pub fn with_variables(t: Tally, agrees: bool) -> Tally {
+    let mut next = t;
+    let variables = t.variables;
+    next.variables = one_more(variables, agrees);
+    next
+}
+
+pub fn out_of_form(t: Tally) -> Tally {
+    let mut next = t;
+    next.broken = true;
+    next
 }

@@ -1,25 +1,27 @@
-// Runs the check of the packed table on the vectors of standard input. Prints how many there are of each expected number, and with
-// how many of those the check agrees. Stops at a record out of form, and says so.
+// Runs the check of the packed table, and the count of its circuit's variables, on the vectors of standard input. Prints how many
+// there are of each expected number, and with how many of those the code agrees. Stops at a line out of form, and says so.
+//
+// A line: kind (table or list), expected number, count (of an accepted table its variables, of a list its table's steps), and the
+// bytes in hex. Tabs stand between, `-` for empty or none, and a line of names comes first.
 mod count;
-mod record;
 mod report;
+mod text;
+mod vector;
 
-use count::Tally;
-use count::no_vectors;
-use record::run_next;
 use report::print_tally;
+use vector::tally_text;
+ghost use mathlib.Core.Path.{_≡_};
+ghost use lib.ListN.{length};
 
-// Nothing says that the input ends, so the records are read up to this many.
-const MOST_RECORDS: u32 = 100000;
-
-fn tally_input() -> Tally {
-    let mut tally = no_vectors();
-    for _ in 0..MOST_RECORDS {
-        tally = run_next(tally);
-    }
-    tally
+// Room for the whole input.
+fn space() -> [u8; 262144]
+    ensures { λ r. ⌜ 262144 ≡ length r ⌝ }
+{
+    [0; 262144]
 }
 
 fn main() {
-    print_tally(tally_input());
+    let mut text = space();
+    let n = io::read_full(0, &mut text);
+    print_tally(tally_text(&text[..n]));
 }

@@ -1,6 +1,5 @@
 // Printing a tally, a line for each number that has a vector.
 use crate::count::Count;
-use crate::count::Input;
 use crate::count::Tally;
 
 fn print_count(c: Count) {
@@ -30,9 +29,9 @@ pub fn print_tally(t: Tally) {
     print_numbers(counts);
     io::write_all(1, b"all");
     print_count(t.all);
-    let input = t.input;
-    if let Input::Ended = input {
-        return;
+    io::write_all(1, b"variables");
+    print_count(t.variables);
+    if t.broken {
+        io::write_all(1, b"the input was not read to its end\n");
     }
-    io::write_all(1, b"the input was not read to its end\n");
 }

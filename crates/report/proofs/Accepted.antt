@@ -1,0 +1,53 @@
+-- A length that Read answers: the buffer's first bytes, so many, are an accepted table.
+use Prim.Native.Nat.{ℕ, _≤_}
+use mathlib.Core.Path.{_≡_, refl, sym, ap, subst, _∙_}
+use mathlib.Core.List.{List, _++_}
+use mathlib.Core.Option.{Option, none, some}
+use native.Mathlib.Omega.{arith}
+use borrow.Author.Tests.{leb-true}
+use lib.Dec.{leb}
+use lib.ListN.{length, take, drop}
+use lib.Seq.{take-at}
+use Rattle.table.specs.declared.refusal.Refusal.the-variants.{SheetForm, ShortBuffer}
+use Rattle.table.specs.declared.refusal.Verdict.{Verdict}
+use Rattle.table.specs.declared.refusal.Verdict.the-variants.{Accepted, Refused}
+use Rattle.table.specs.Verdict.{require}
+use Rattle.table.specs.Buffer.{onAccepted}
+use Rattle.table.specs.Accept.{tableVerdict}
+use Rattle.table.proofs.Verdicts.{refused, then-accepted, require-accepted}
+use Rattle.sheet.specs.declared.answer.Read.the-variants.{Length}
+use Rattle.sheet.specs.Form.{Sheet}
+use Rattle.sheet.specs.Parse.{parse}
+use Rattle.sheet.specs.Read.{pack, packed, sheetVerdict, readVerdict, answer, readAnswer, readBuffer}
+
+-- a length is answered where every test passed
+length-back : (v : Verdict) (table : List ℕ) (k : ℕ) → answer v table ≡ Length k → (v ≡ Accepted) × (length table ≡ k)
+length-back Accepted table k e = (refl, cc)
+length-back (Refused q) table k e = absurd (let z : _≡_ {A = ℕ} 0 1 = cc in omega arith)
+
+-- then the packed table was accepted, and has room
+tests-passed : (p : Option Sheet) (room : ℕ) → sheetVerdict p room ≡ Accepted → (tableVerdict (packed p) ≡ Accepted) × (length (packed p) ≤ room)
+tests-passed none room h = absurd (refused SheetForm h)
+tests-passed (some v) room h =
+    let t = then-accepted (tableVerdict (pack v)) _ h in
+    (t .0, leb-true _ _ (require-accepted ShortBuffer (leb (length (pack v)) room) (t .1)))
+
+module _ (text out : List ℕ) (k : ℕ) (e : readAnswer text out ≡ Length k) where
+  passed : (tableVerdict (packed (parse text)) ≡ Accepted) × (length (packed (parse text)) ≤ length out)
+  unfolding readVerdict
+  passed = tests-passed (parse text) (length out) (length-back (readVerdict text (length out)) (packed (parse text)) k e .0)
+
+  size : length (packed (parse text)) ≡ k
+  size = length-back (readVerdict text (length out)) (packed (parse text)) k e .1
+
+  pub read-short : k ≤ length out
+  read-short = omega (arith, size, passed .1)
+
+  front : take k (readBuffer text out) ≡ packed (parse text)
+  front =
+      ap (λ (v : Verdict). take k (onAccepted v (packed (parse text) ++ drop (length (packed (parse text))) out) out))
+      (length-back (readVerdict text (length out)) (packed (parse text)) k e .0)
+      ∙ take-at (packed (parse text)) (drop (length (packed (parse text))) out) k size
+
+  pub read-accepted : tableVerdict (take k (readBuffer text out)) ≡ Accepted
+  read-accepted = ap tableVerdict front ∙ passed .0

@@ -1,0 +1,179 @@
+-- What is printed is at most 1,066 bytes: 128 lines of steps of 8 bytes each, and 42 bytes before them.
+use Prim.Native.Nat.{ℕ, zero, suc, _+_, _*_, _≤_, _<_}
+use mathlib.Core.Path.{_≡_, refl, sym, ap, subst, _∙_}
+use mathlib.Core.Bool.{Bool, true, false}
+use mathlib.Core.List.{List, [], _∷_, _++_, map}
+use mathlib.Core.Option.{some}
+use native.Mathlib.Decide.{decLt}
+use native.Mathlib.Nat.{mul-suc, le-of-eq}
+use native.Mathlib.Omega.{arith}
+use lib.Dec.{leb}
+use lib.ListN.{length, getD, drop, take, replicate, length-append}
+use lib.Seq.{getD-drop}
+use Rattle.table.specs.declared.record.Step.{Step}
+use Rattle.table.specs.declared.refusal.Refusal.{Refusal}
+use Rattle.table.specs.declared.refusal.Refusal.the-variants as refusal
+use Rattle.table.specs.declared.refusal.Verdict.{Verdict}
+use Rattle.table.specs.declared.refusal.Verdict.the-variants.{Accepted, Refused}
+use Rattle.table.specs.Verdict.{refusalNumber}
+use Rattle.table.specs.Buffer.{onAccepted}
+use Rattle.table.specs.Table.{Table, tableOf, stepsOf}
+use Rattle.table.specs.Accept.{all, stepFits, tableVerdict}
+use Rattle.table.proofs.Accepted.{accepted, step-within, header-accepted, records-accepted}
+use Rattle.table.proofs.Bools.{and-parts}
+use Rattle.ctl.specs.Levels.{below}
+use Rattle.closure.specs.Closure.{Mark, Marks, unknown, known, markAt, closure}
+use Rattle.closure.specs.Numbered.{numberedClauses}
+use Rattle.circuit.specs.Variables.{variableCount}
+use Rattle.search.specs.Search.{Outcome, found, none, spent, search, capped, uncapped}
+use Rattle.search.specs.TableSearch.{bitOf, listOf, searchUnder, searchFree, tableSearch}
+use Rattle.search.specs.Right.{choices}
+use Rattle.search.specs.Answer.{listAfter}
+use Rattle.search.proofs.Cap.{search-cut, search-same}
+use Rattle.sheet.specs.declared.answer.Read.{Read}
+use Rattle.sheet.specs.declared.answer.Read.the-variants.{Length, Refused as ReadRefused}
+use Rattle.sheet.specs.Form.{ascii, decimal, ended, line}
+use Rattle.sheet.specs.Read.{readAnswer, readBuffer}
+use Rattle.sheet.proofs.Number.{low-length}
+use Rattle.sheet.proofs.Bounds.{more-digits, ended-length}
+use Rattle.repair.specs.declared.answer.Answer.{Answer}
+use Rattle.repair.specs.declared.answer.Answer.the-variants.{Found, None, Spent, Refused as AnswerRefused}
+use Rattle.repair.specs.Outcome.{repairVerdict, answerAt, answerOf, repairAnswer, repairList}
+use Rattle.report.specs.Report.{refused, counted, keptLine, keptLines, answerText, zeros, cap, tableText, readText, limited, fitText}
+use Rattle.report.proofs.Accepted.{read-accepted}
+
+-- ---- numbers and lines
+
+two-digits : (v : ℕ) → v < 100 → length (decimal v) ≤ 2
+two-digits = more-digits 10 1 (λ w h. le-of-eq (low-length w h))
+
+seven-digits : (v : ℕ) → v ≤ 1000000 → length (decimal v) ≤ 7
+seven-digits v h = more-digits 1000000 6 (more-digits 100000 5 (more-digits 10000 4 (more-digits 1000 3 (more-digits 100 2 two-digits)))) v (omega arith)
+
+one-value : (v : ℕ) → length (line (v ∷ [])) ≡ length (decimal v) + 1
+unfolding line
+one-value v = ended-length 10 v
+
+three-values : (a b c : ℕ) → length (line (a ∷ b ∷ c ∷ [])) ≡ length (decimal a) + length (decimal b) + length (decimal c) + 3
+unfolding line
+three-values a b c =
+    omega (arith, length-append (ended 32 a) (ended 32 b ++ ended 10 c), length-append (ended 32 b) (ended 10 c), ended-length 32 a, ended-length 32 b, ended-length 10 c)
+
+-- ---- the lines of the steps
+
+-- every entry is 0 or 1
+abbrev Bits : List ℕ → Type 0
+Bits list = (i : ℕ) → getD list i 0 ≤ 1
+
+bits-append : (xs ys : List ℕ) → Bits xs → Bits ys → Bits (xs ++ ys)
+bits-append [] ys h k i = k i
+bits-append (x ∷ xs) ys h k zero = h zero
+bits-append (x ∷ xs) ys h k (suc i) = bits-append xs ys (λ j. h (suc j)) k i
+
+bits-drop : (n : ℕ) (xs : List ℕ) → Bits xs → Bits (drop n xs)
+bits-drop n xs h i = subst (λ (b : ℕ). b ≤ 1) (sym (getD-drop n xs i 0)) (h (n + i))
+
+bits-zeros : (n : ℕ) → Bits (zeros n)
+bits-zeros zero i = omega arith
+bits-zeros (suc n) zero = omega arith
+bits-zeros (suc n) (suc i) = bits-zeros n i
+
+bit-of : (m : Mark) → bitOf m ≤ 1
+bit-of unknown = omega arith
+bit-of (known true) = omega arith
+bit-of (known false) = omega arith
+
+bits-map : (m : Marks) (steps : List ℕ) → Bits (map (λ j. bitOf (markAt m j)) steps)
+bits-map m [] i = omega arith
+bits-map m (j ∷ steps) zero = bit-of (markAt m j)
+bits-map m (j ∷ steps) (suc i) = bits-map m steps i
+
+kept-length : (x : Step) (n kept : ℕ) → n ≤ 32 → stepFits n x ≡ true → kept ≤ 1 → length (keptLine x kept) ≤ 8
+kept-length x n kept h fits bit =
+    let w = step-within n x fits in
+    omega (arith, three-values (x .from) (x .to) kept, two-digits (x .from) (omega (arith, w .0)), two-digits (x .to) (omega (arith, w .1)), low-length kept (omega arith))
+
+lines-length : (n : ℕ) → n ≤ 32 → (steps : List Step) (list : List ℕ) → all (stepFits n) steps ≡ true → Bits list → length (keptLines steps list) ≤ 8 * length steps
+unfolding keptLines all
+lines-length n h [] list fit bits = omega arith
+lines-length n h (x ∷ steps) [] fit bits = omega arith
+lines-length n h (x ∷ steps) (kept ∷ list) fit bits =
+    let f = and-parts (stepFits n x) (all (stepFits n) steps) fit in
+    omega (arith, length-append (keptLine x kept) (keptLines steps list), kept-length x n kept h (f .0) (bits 0), lines-length n h steps list (f .1) (λ i. bits (suc i)), mul-suc 8 (length steps))
+
+-- ---- Repair's answer
+
+refusal-few : (r : Refusal) → refusalNumber r ≤ 13
+refusal-few refusal.SheetForm = omega arith
+refusal-few refusal.Length = omega arith
+refusal-few refusal.Counts = omega arith
+refusal-few refusal.StateRecord = omega arith
+refusal-few refusal.NoInitial = omega arith
+refusal-few refusal.StepEnd = omega arith
+refusal-few refusal.RepeatedStep = omega arith
+refusal-few refusal.NodeRecord = omega arith
+refusal-few refusal.ListForm = omega arith
+refusal-few refusal.ShortBuffer = omega arith
+refusal-few refusal.NotTotal = omega arith
+refusal-few refusal.NoInitialKept = omega arith
+refusal-few refusal.RootFails = omega arith
+
+refused-length : (r : Refusal) → length (refused r) ≤ 1066
+refused-length r = omega (arith, one-value (refusalNumber r), two-digits (refusalNumber r) (omega (arith, refusal-few r)))
+
+-- under a cap no more choices are made
+choices-few : (T : Table) (most : ℕ) → choices (searchUnder T most) ≤ most
+unfolding tableSearch
+choices-few T most =
+    let close = closure (variableCount T) (numberedClauses T) in
+    let steps = below (length (T .steps)) in
+    elim (decLt most (choices (searchFree T))) [
+      | yes over ↦ omega (arith, ap choices (search-cut close steps most over))
+      | no not-over ↦ (let within : choices (searchFree T) ≤ most = omega (arith, not-over) in omega (arith, ap choices (search-same close steps most within)))
+    ]
+
+outcome-length : (table : List ℕ) (o : Outcome) (list : List ℕ) → choices o ≤ cap → length (keptLines (stepsOf table) list) ≤ 1024 → length (answerText table (answerOf o) list) ≤ 1066
+outcome-length table (found m c) list few short =
+    omega (arith, length-append (line (c ∷ [])) (ascii "from to kept\n" ++ keptLines (stepsOf table) list), one-value c, seven-digits c few)
+outcome-length table (none c) list few short = omega (arith, one-value c, seven-digits c few)
+outcome-length table (spent c) list few short = omega (arith, one-value c, seven-digits c few)
+
+answer-length : (table : List ℕ) (v : Verdict) (o : Outcome) (list : List ℕ) → choices o ≤ cap → length (keptLines (stepsOf table) list) ≤ 1024 → length (answerText table (answerAt v o) list) ≤ 1066
+answer-length table Accepted o list few short = outcome-length table o list few short
+answer-length table (Refused r) o list few short = refused-length r
+
+outcome-bits : (T : Table) (o : Outcome) (list : List ℕ) → Bits list → Bits (listAfter T o list)
+outcome-bits T (found m c) list h = bits-append (listOf T m) (drop (length (T .steps)) list) (bits-map m (below (length (T .steps)))) (bits-drop (length (T .steps)) list h)
+outcome-bits T (none c) list h = h
+outcome-bits T (spent c) list h = h
+
+list-bits : (v : Verdict) (T : Table) (o : Outcome) (list : List ℕ) → Bits list → Bits (onAccepted v (listAfter T o list) list)
+list-bits Accepted T o list h = outcome-bits T o list h
+list-bits (Refused r) T o list h = h
+
+table-length : (table : List ℕ) → tableVerdict table ≡ Accepted → length (tableText table) ≤ 1066
+unfolding tableText
+table-length table ok =
+    let T = tableOf table in
+    let p = accepted table ok .table in
+    let v = repairVerdict table (zeros 128) (zeros 10000) (zeros 10000) in
+    let o = searchUnder T cap in
+    let list = repairList table cap (zeros 128) (zeros 10000) (zeros 10000) in
+    let fit = records-accepted T (header-accepted table ok .2) .2 in
+    let few = p .few-steps in
+    let lines = lines-length (length (T .states)) (p .few-states) (T .steps) list fit (list-bits v T o (zeros 128) (bits-zeros 128)) in
+    answer-length table v o list (choices-few T cap) (omega arith)
+
+-- ---- the whole
+
+limited-length : (b : Bool) (text : List ℕ) → length (limited b text) ≤ 1066
+limited-length true text = by (readAnswer text (zeros 452)) refl
+  where
+    by : (r : Read) → readAnswer text (zeros 452) ≡ r → length (readText r (readBuffer text (zeros 452))) ≤ 1066
+    by (Length k) e = table-length (take k (readBuffer text (zeros 452))) (read-accepted text (zeros 452) k e)
+    by (ReadRefused r) e = refused-length r
+limited-length false text = refused-length refusal.SheetForm
+
+pub text-length : (text : List ℕ) → length (fitText text) ≤ 1066
+unfolding fitText
+text-length text = limited-length (leb (length text) 4096) text

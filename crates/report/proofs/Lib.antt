@@ -1,0 +1,5 @@
+pub mod Kept
+pub mod Accepted
+pub mod Fits
+pub mod Cases
+pub mod Samples

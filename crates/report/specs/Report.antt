@@ -1,0 +1,72 @@
+-- 01, "The sheet": what program `fit` prints, for every text that it reads.
+use Prim.Native.Nat.{ℕ}
+use Prim.Native.String.{String}
+use mathlib.Core.Bool.{Bool, true, false}
+use mathlib.Core.List.{List, [], _∷_, _++_}
+use lib.Dec.{leb}
+use lib.ListN.{length, take, replicate}
+use Rattle.table.specs.declared.record.Step.{Step}
+use Rattle.table.specs.declared.refusal.Refusal.{Refusal}
+use Rattle.table.specs.declared.refusal.Refusal.the-variants.{SheetForm}
+use Rattle.table.specs.Verdict.{refusalNumber}
+use Rattle.table.specs.Table.{stepsOf}
+use Rattle.sheet.specs.declared.answer.Read.{Read}
+use Rattle.sheet.specs.declared.answer.Read.the-variants.{Length, Refused as ReadRefused}
+use Rattle.sheet.specs.Form.{ascii, line}
+use Rattle.sheet.specs.Read.{readAnswer, readBuffer}
+use Rattle.repair.specs.declared.answer.Answer.{Answer}
+use Rattle.repair.specs.declared.answer.Answer.the-variants.{Found, None, Spent, Refused}
+use Rattle.repair.specs.Outcome.{repairAnswer, repairList}
+
+-- a line of names, then a word and a number
+abbrev pub answerLines : List ℕ → List ℕ → ℕ → List ℕ
+answerLines names word number = names ++ (word ++ line (number ∷ []))
+
+-- found, none and spent come with the choices, refused with the refusal's number
+abbrev pub counted : String → ℕ → List ℕ
+counted word choices = answerLines (ascii "answer choices\n") (ascii word) choices
+
+abbrev pub refused : Refusal → List ℕ
+refused r = answerLines (ascii "answer number\n") (ascii "refused ") (refusalNumber r)
+
+-- a line for each step: from, to, and 1 kept or 0 struck
+abbrev pub keptLine : Step → ℕ → List ℕ
+keptLine x kept = line (x .from ∷ x .to ∷ kept ∷ [])
+
+unfoldable pub keptLines : List Step → List ℕ → List ℕ
+keptLines [] list = []
+keptLines (x ∷ steps) [] = []
+keptLines (x ∷ steps) (kept ∷ list) = keptLine x kept ++ keptLines steps list
+
+-- what is printed of Repair's answer and of the list that it leaves
+abbrev pub answerText : List ℕ → Answer → List ℕ → List ℕ
+answerText table (Found choices) list = counted "found " choices ++ (ascii "from to kept\n" ++ keptLines (stepsOf table) list)
+answerText table (None choices) list = counted "none " choices
+answerText table (Spent choices) list = counted "spent " choices
+answerText table (Refused r) list = refused r
+
+-- 128 list bytes and 10,000 work entries, all zero at first, and the cap
+abbrev pub zeros : ℕ → List ℕ
+zeros k = replicate k 0
+
+abbrev pub cap : ℕ
+cap = 1000000
+
+unfoldable pub tableText : List ℕ → List ℕ
+tableText table =
+    answerText table
+    (repairAnswer table cap (zeros 128) (zeros 10000) (zeros 10000))
+    (repairList table cap (zeros 128) (zeros 10000) (zeros 10000))
+
+-- what is printed of Read's answer and of the buffer that it leaves
+abbrev pub readText : Read → List ℕ → List ℕ
+readText (Length k) buffer = tableText (take k buffer)
+readText (ReadRefused r) buffer = refused r
+
+-- a text of at most 4,096 bytes is read into 452 bytes, a longer one is refused with 1
+abbrev pub limited : Bool → List ℕ → List ℕ
+limited true text = readText (readAnswer text (zeros 452)) (readBuffer text (zeros 452))
+limited false text = refused SheetForm
+
+unfoldable pub fitText : List ℕ → List ℕ
+fitText text = limited (leb (length text) 4096) text

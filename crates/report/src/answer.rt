@@ -1,0 +1,51 @@
+// What is printed of each answer.
+use crate::lines::write_answer;
+use crate::steps::write_steps;
+use repair::Answer;
+use sheet::put_bytes;
+use table::Refusal;
+use table::counts_of;
+use table::refusal_number;
+use table::steps_part;
+ghost use Prim.Native.Nat.{_≤_};
+ghost use lib.ListN.{length};
+ghost use Rattle.table.specs.Table.{countsOf};
+ghost use Rattle.sheet.specs.Render.{Room, Stored};
+ghost use Rattle.repair.specs.declared.answer.Answer.the-variants.{Found};
+ghost use Rattle.report.specs.Report.{refused, answerText};
+
+pub fn write_refused(out: &mut [u8], refusal: Refusal) -> usize
+    requires { ⌜ Room (now out) 0 (refused refusal) ⌝ }
+    ensures { λ r. ⌜ Stored (now (out .entry)) 0 (refused refusal) (now (out .exit)) r ⌝ }
+{
+    write_answer(
+        out,
+        b"answer number\n",
+        b"refused ",
+        refusal_number(refusal) as usize,
+    )
+}
+
+fn write_found(table: &[u8], choices: u64, list: &[u8], out: &mut [u8]) -> usize
+    requires { ⌜ countsOf (now table) .steps ≤ length (now list) ⌝ }
+    requires { ⌜ Room (now out) 0 (answerText (now table) (Found choices) (now list)) ⌝ }
+    ensures { λ r. ⌜ Stored (now (out .entry)) 0 (answerText (now (table .entry)) (Found choices) (now (list .entry))) (now (out .exit)) r ⌝ }
+{
+    let c = counts_of(table);
+    let third = write_answer(out, b"answer choices\n", b"found ", choices as usize);
+    let at = put_bytes(out, third, b"from to kept\n");
+    write_steps(steps_part(table), c.steps, list, out, at)
+}
+
+pub fn write_result(table: &[u8], answer: Answer, list: &[u8], out: &mut [u8]) -> usize
+    requires { ⌜ countsOf (now table) .steps ≤ length (now list) ⌝ }
+    requires { ⌜ Room (now out) 0 (answerText (now table) answer (now list)) ⌝ }
+    ensures { λ r. ⌜ Stored (now (out .entry)) 0 (answerText (now (table .entry)) answer (now (list .entry))) (now (out .exit)) r ⌝ }
+{
+    match answer {
+        Answer::Found(c) => write_found(table, c, list, out),
+        Answer::None(c) => write_answer(out, b"answer choices\n", b"none ", c as usize),
+        Answer::Spent(c) => write_answer(out, b"answer choices\n", b"spent ", c as usize),
+        Answer::Refused(refusal) => write_refused(out, refusal),
+    }
+}
