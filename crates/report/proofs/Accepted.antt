@@ -1,6 +1,6 @@
 -- A length that Read answers: the buffer's first bytes, so many, are an accepted table.
 use Prim.Native.Nat.{ℕ, _≤_}
-use mathlib.Core.Path.{_≡_, refl, sym, ap, subst, _∙_}
+use mathlib.Core.Path.{_≡_, refl, ap, _∙_}
 use mathlib.Core.List.{List, _++_}
 use mathlib.Core.Option.{Option, none, some}
 use native.Mathlib.Omega.{arith}
@@ -11,7 +11,6 @@ use lib.Seq.{take-at}
 use Rattle.table.specs.declared.refusal.Refusal.the-variants.{SheetForm, ShortBuffer}
 use Rattle.table.specs.declared.refusal.Verdict.{Verdict}
 use Rattle.table.specs.declared.refusal.Verdict.the-variants.{Accepted, Refused}
-use Rattle.table.specs.Verdict.{require}
 use Rattle.table.specs.Buffer.{onAccepted}
 use Rattle.table.specs.Accept.{tableVerdict}
 use Rattle.table.proofs.Verdicts.{refused, then-accepted, require-accepted}

@@ -6,7 +6,7 @@ use mathlib.Core.List.{List, _++_}
 use native.Mathlib.Nat.{zero-add}
 use native.Mathlib.Omega.{arith}
 use borrow.Author.Tests.{le-leb, lt-leb}
-use lib.ListN.{length, take, drop}
+use lib.ListN.{length, drop}
 use lib.Seq.{sets-eq}
 use Rattle.table.specs.declared.refusal.Refusal.the-variants.{SheetForm}
 use Rattle.sheet.specs.declared.answer.Read.{Read}

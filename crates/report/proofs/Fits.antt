@@ -1,46 +1,36 @@
 -- What is printed is at most 1,066 bytes: 128 lines of steps of 8 bytes each, and 42 bytes before them.
-use Prim.Native.Nat.{ℕ, zero, suc, _+_, _*_, _≤_, _<_}
-use mathlib.Core.Path.{_≡_, refl, sym, ap, subst, _∙_}
+use Prim.Native.Nat.{ℕ, suc, _+_, _*_, _≤_, _<_}
+use mathlib.Core.Path.{_≡_, refl}
 use mathlib.Core.Bool.{Bool, true, false}
-use mathlib.Core.List.{List, [], _∷_, _++_, map}
-use mathlib.Core.Option.{some}
-use native.Mathlib.Decide.{decLt}
+use mathlib.Core.List.{List, [], _∷_, _++_}
 use native.Mathlib.Nat.{mul-suc, le-of-eq}
 use native.Mathlib.Omega.{arith}
 use lib.Dec.{leb}
-use lib.ListN.{length, getD, drop, take, replicate, length-append}
-use lib.Seq.{getD-drop}
+use lib.ListN.{length, take, length-append}
 use Rattle.table.specs.declared.record.Step.{Step}
 use Rattle.table.specs.declared.refusal.Refusal.{Refusal}
 use Rattle.table.specs.declared.refusal.Refusal.the-variants as refusal
 use Rattle.table.specs.declared.refusal.Verdict.{Verdict}
 use Rattle.table.specs.declared.refusal.Verdict.the-variants.{Accepted, Refused}
 use Rattle.table.specs.Verdict.{refusalNumber}
-use Rattle.table.specs.Buffer.{onAccepted}
-use Rattle.table.specs.Table.{Table, tableOf, stepsOf}
+use Rattle.table.specs.Table.{tableOf, stepsOf}
 use Rattle.table.specs.Accept.{all, stepFits, tableVerdict}
 use Rattle.table.proofs.Accepted.{accepted, step-within, header-accepted, records-accepted}
 use Rattle.table.proofs.Bools.{and-parts}
-use Rattle.ctl.specs.Levels.{below}
-use Rattle.closure.specs.Closure.{Mark, Marks, unknown, known, markAt, closure}
-use Rattle.closure.specs.Numbered.{numberedClauses}
-use Rattle.circuit.specs.Variables.{variableCount}
-use Rattle.search.specs.Search.{Outcome, found, none, spent, search, capped, uncapped}
-use Rattle.search.specs.TableSearch.{bitOf, listOf, searchUnder, searchFree, tableSearch}
+use Rattle.search.specs.Search.{Outcome, found, none, spent}
+use Rattle.search.specs.TableSearch.{searchUnder}
 use Rattle.search.specs.Right.{choices}
-use Rattle.search.specs.Answer.{listAfter}
-use Rattle.search.proofs.Cap.{search-cut, search-same}
 use Rattle.sheet.specs.declared.answer.Read.{Read}
 use Rattle.sheet.specs.declared.answer.Read.the-variants.{Length, Refused as ReadRefused}
 use Rattle.sheet.specs.Form.{ascii, decimal, ended, line}
 use Rattle.sheet.specs.Read.{readAnswer, readBuffer}
 use Rattle.sheet.proofs.Number.{low-length}
 use Rattle.sheet.proofs.Bounds.{more-digits, ended-length}
-use Rattle.repair.specs.declared.answer.Answer.{Answer}
-use Rattle.repair.specs.declared.answer.Answer.the-variants.{Found, None, Spent, Refused as AnswerRefused}
-use Rattle.repair.specs.Outcome.{repairVerdict, answerAt, answerOf, repairAnswer, repairList}
-use Rattle.report.specs.Report.{refused, counted, keptLine, keptLines, answerText, zeros, cap, tableText, readText, limited, fitText}
+use Rattle.repair.specs.Outcome.{repairVerdict, answerAt, answerOf, repairList}
+use Rattle.report.specs.Report.{refused, keptLine, keptLines, answerText, zeros, cap, tableText, readText, limited, fitText}
 use Rattle.report.proofs.Accepted.{read-accepted}
+use Rattle.report.proofs.Bits.{Bits, bits-zeros, list-bits}
+use Rattle.report.proofs.FewChoices.{choices-few}
 
 -- ---- numbers and lines
 
@@ -60,33 +50,6 @@ three-values a b c =
     omega (arith, length-append (ended 32 a) (ended 32 b ++ ended 10 c), length-append (ended 32 b) (ended 10 c), ended-length 32 a, ended-length 32 b, ended-length 10 c)
 
 -- ---- the lines of the steps
-
--- every entry is 0 or 1
-abbrev Bits : List ℕ → Type 0
-Bits list = (i : ℕ) → getD list i 0 ≤ 1
-
-bits-append : (xs ys : List ℕ) → Bits xs → Bits ys → Bits (xs ++ ys)
-bits-append [] ys h k i = k i
-bits-append (x ∷ xs) ys h k zero = h zero
-bits-append (x ∷ xs) ys h k (suc i) = bits-append xs ys (λ j. h (suc j)) k i
-
-bits-drop : (n : ℕ) (xs : List ℕ) → Bits xs → Bits (drop n xs)
-bits-drop n xs h i = subst (λ (b : ℕ). b ≤ 1) (sym (getD-drop n xs i 0)) (h (n + i))
-
-bits-zeros : (n : ℕ) → Bits (zeros n)
-bits-zeros zero i = omega arith
-bits-zeros (suc n) zero = omega arith
-bits-zeros (suc n) (suc i) = bits-zeros n i
-
-bit-of : (m : Mark) → bitOf m ≤ 1
-bit-of unknown = omega arith
-bit-of (known true) = omega arith
-bit-of (known false) = omega arith
-
-bits-map : (m : Marks) (steps : List ℕ) → Bits (map (λ j. bitOf (markAt m j)) steps)
-bits-map m [] i = omega arith
-bits-map m (j ∷ steps) zero = bit-of (markAt m j)
-bits-map m (j ∷ steps) (suc i) = bits-map m steps i
 
 kept-length : (x : Step) (n kept : ℕ) → n ≤ 32 → stepFits n x ≡ true → kept ≤ 1 → length (keptLine x kept) ≤ 8
 kept-length x n kept h fits bit =
@@ -121,17 +84,6 @@ refusal-few refusal.RootFails = omega arith
 refused-length : (r : Refusal) → length (refused r) ≤ 1066
 refused-length r = omega (arith, one-value (refusalNumber r), two-digits (refusalNumber r) (omega (arith, refusal-few r)))
 
--- under a cap no more choices are made
-choices-few : (T : Table) (most : ℕ) → choices (searchUnder T most) ≤ most
-unfolding tableSearch
-choices-few T most =
-    let close = closure (variableCount T) (numberedClauses T) in
-    let steps = below (length (T .steps)) in
-    elim (decLt most (choices (searchFree T))) [
-      | yes over ↦ omega (arith, ap choices (search-cut close steps most over))
-      | no not-over ↦ (let within : choices (searchFree T) ≤ most = omega (arith, not-over) in omega (arith, ap choices (search-same close steps most within)))
-    ]
-
 outcome-length : (table : List ℕ) (o : Outcome) (list : List ℕ) → choices o ≤ cap → length (keptLines (stepsOf table) list) ≤ 1024 → length (answerText table (answerOf o) list) ≤ 1066
 outcome-length table (found m c) list few short =
     omega (arith, length-append (line (c ∷ [])) (ascii "from to kept\n" ++ keptLines (stepsOf table) list), one-value c, seven-digits c few)
@@ -141,15 +93,6 @@ outcome-length table (spent c) list few short = omega (arith, one-value c, seven
 answer-length : (table : List ℕ) (v : Verdict) (o : Outcome) (list : List ℕ) → choices o ≤ cap → length (keptLines (stepsOf table) list) ≤ 1024 → length (answerText table (answerAt v o) list) ≤ 1066
 answer-length table Accepted o list few short = outcome-length table o list few short
 answer-length table (Refused r) o list few short = refused-length r
-
-outcome-bits : (T : Table) (o : Outcome) (list : List ℕ) → Bits list → Bits (listAfter T o list)
-outcome-bits T (found m c) list h = bits-append (listOf T m) (drop (length (T .steps)) list) (bits-map m (below (length (T .steps)))) (bits-drop (length (T .steps)) list h)
-outcome-bits T (none c) list h = h
-outcome-bits T (spent c) list h = h
-
-list-bits : (v : Verdict) (T : Table) (o : Outcome) (list : List ℕ) → Bits list → Bits (onAccepted v (listAfter T o list) list)
-list-bits Accepted T o list h = outcome-bits T o list h
-list-bits (Refused r) T o list h = h
 
 table-length : (table : List ℕ) → tableVerdict table ≡ Accepted → length (tableText table) ≤ 1066
 unfolding tableText

@@ -1,6 +1,6 @@
 -- `main` is safe: the bytes that were read and those that are printed are parts of their buffers.
 use Prim.Native.Nat.{_≤_}
-use mathlib.Core.Path.{sym, ap, subst, _∙_}
+use mathlib.Core.Path.{sym, ap, subst}
 use native.Mathlib.Omega.{arith}
 use lib.ListN.{length, length-append}
 use lib.Seq.{length-take-le}

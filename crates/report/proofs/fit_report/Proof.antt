@@ -10,10 +10,10 @@ use borrow.Author.Needs.{needs}
 use Rattle.table.specs.declared.refusal.Verdict.the-variants.{Accepted}
 use Rattle.table.specs.Accept.{tableVerdict}
 use Rattle.sheet.specs.declared.answer.Read.{Read}
-use Rattle.sheet.specs.declared.answer.Read.the-variants.{Length, Refused}
+use Rattle.sheet.specs.declared.answer.Read.the-variants.{Length}
 use Rattle.sheet.specs.Read.{readAnswer}
 use Rattle.sheet.proofs.Left.{room-as, stored-as}
-use Rattle.report.specs.Report.{refused, zeros, tableText, readText, fitText}
+use Rattle.report.specs.Report.{zeros, readText, fitText}
 use Rattle.report.proofs.Accepted.{read-short, read-accepted}
 use Rattle.report.proofs.Cases.{too-long, text-read, text-room, stored-front}
 use Rattle.report.proofs.fit_report.Statement.{statement}

@@ -1,5 +1,5 @@
 -- `report_table` meets its contract: Repair's answer and list, and what is printed of them.
-use mathlib.Core.Path.{_≡_, sym}
+use mathlib.Core.Path.{_≡_}
 use native.Mathlib.Omega.{arith}
 use denote.Ref.{now}
 use borrow.Author.Needs.{needs}

@@ -1,7 +1,5 @@
 -- `write_result` meets its contract: each case of the answer has its own text.
-use Prim.Native.Nat.{ℕ}
 use mathlib.Core.Path.{_≡_, sym, ap}
-use mathlib.Core.List.{List}
 use denote.Ref.{now}
 use borrow.Author.Needs.{needs}
 use Rattle.sheet.proofs.Left.{room-as, stored-as}

@@ -1,8 +1,8 @@
 -- `write_steps` meets its contract. The loop's invariant: the lines from i on are left.
 use Prim.Native.Nat.{_+_, _-_, _≤_, zero-le}
-use mathlib.Core.List.{[], _++_}
+use mathlib.Core.List.{_++_}
 use native.Mathlib.Omega.{arith}
-use lib.ListN.{length, getD}
+use lib.ListN.{getD}
 use denote.Ref.{now}
 use Rattle.sheet.proofs.Left.{Left, left-all, left-as, left-room, left-next, left-done}
 use Rattle.report.specs.Report.{keptLine}

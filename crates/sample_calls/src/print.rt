@@ -1,0 +1,22 @@
+// A line for each sample: the number that the call gave, and what was called.
+
+pub fn print_names() {
+    io::write_all(1, b"number sample\n");
+}
+
+pub fn print_sample(number: u32, sample: &[u8]) {
+    io::print_decimal(1, number as u64);
+    io::write_all(1, b" ");
+    io::write_all(1, sample);
+    io::write_all(1, b"\n");
+}
+
+// The same, with the choices that the answer carries.
+pub fn print_choices(number: u32, sample: &[u8], choices: u64) {
+    io::print_decimal(1, number as u64);
+    io::write_all(1, b" ");
+    io::write_all(1, sample);
+    io::write_all(1, b", choices ");
+    io::print_decimal(1, choices);
+    io::write_all(1, b"\n");
+}

@@ -1,0 +1,35 @@
+// The most steps that a table may have.
+use crate::print::print_sample;
+
+// 32 states, the first one initial, and 129 steps: all from 0, 1, 2 and 3, and one from 4. The node behind them is still missing.
+fn stepped() -> [u8; 361] {
+    let mut table = [0u8; 361];
+    table[0] = 32;
+    table[2] = 1;
+    table[4] = 1;
+    let mut j = 0;
+    while j < 129 {
+        table[100 + 2 * j] = (j / 32) as u8;
+        table[101 + 2 * j] = (j % 32) as u8;
+        j += 1;
+    }
+    table
+}
+
+fn print_checked(table: &[u8], sample: &[u8]) {
+    print_sample(table::verdict_number(table::check_table(table)), sample);
+}
+
+// The node, true, stands behind the last step that counts.
+pub fn run_steps() {
+    let mut most = stepped();
+    most[1] = 128;
+    most[356] = 1;
+    most[357] = 0;
+    most[358] = 0;
+    print_checked(&most[..359], b"128 steps");
+    let mut more = stepped();
+    more[1] = 129;
+    more[358] = 1;
+    print_checked(&more, b"129 steps");
+}
