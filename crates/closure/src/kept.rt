@@ -8,8 +8,8 @@ use crate::row::row_at;
 ghost use mathlib.Core.Path.{_≡_};
 ghost use mathlib.Core.List.{List};
 ghost use Prim.Native.Nat.{ℕ, _≤_, _<_};
-ghost use lib.ListN.{length, getD};
-ghost use Rattle.closure.specs.Rules.{keptRow, keptSteps, startKept, startRoot};
+ghost use lib.ListN.{length};
+ghost use Rattle.closure.specs.Rules.{keptRow, keptSteps};
 ghost use Rattle.closure.specs.Sweep.{memory, stepped, eachBelow, keptStep, startStep};
 
 // What the steps out of s add to K.

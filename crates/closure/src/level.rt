@@ -11,7 +11,7 @@ use crate::row::is_none;
 use crate::row::row_at;
 use crate::row::turn;
 ghost use mathlib.Core.Path.{_≡_};
-ghost use Prim.Native.Nat.{_+_, _*_, _-_, _≤_, _<_};
+ghost use Prim.Native.Nat.{_≤_, _<_};
 ghost use lib.ListN.{length};
 ghost use Rattle.closure.specs.Sweep.{memory, stepped, goBackMore, levelAt, addLevel, addJoined, joinedAt, levelStep, levelsFrom};
 ghost use Rattle.closure.specs.Setting.{Fits};

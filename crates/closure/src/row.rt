@@ -2,7 +2,7 @@
 ghost use mathlib.Core.Path.{_≡_};
 ghost use Prim.Native.Nat.{_+_, _<_};
 ghost use lib.ListN.{length};
-ghost use Rattle.closure.specs.Row.{turned, only, without};
+ghost use Rattle.closure.specs.Row.{turned, only};
 ghost use Rattle.closure.specs.Rules.{newOf, isNone};
 ghost use Rattle.closure.specs.Memory.{rowAt, joined, reportOf, bothReports};
 

@@ -6,8 +6,6 @@ use crate::node::node_step;
 use crate::row::Report;
 use crate::row::both;
 ghost use mathlib.Core.Path.{_≡_};
-ghost use Prim.Native.Nat.{ℕ, _≤_, _<_};
-ghost use lib.ListN.{length, getD};
 ghost use Rattle.table.specs.Table.{tableOf};
 ghost use Rattle.closure.specs.Memory.{Sized};
 ghost use Rattle.closure.specs.Sweep.{memory, stepped, nodesFrom, sweep};

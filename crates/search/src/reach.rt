@@ -4,7 +4,6 @@ use crate::outcome::Outcome;
 use crate::step_rows::lowest_unsettled;
 use crate::step_rows::write_list;
 use closure::Net;
-ghost use mathlib.Core.Path.{_≡_};
 ghost use Prim.Native.Nat.{_≤_};
 ghost use lib.ListN.{length};
 ghost use Rattle.table.specs.Table.{tableOf};
