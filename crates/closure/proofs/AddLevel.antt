@@ -15,6 +15,7 @@ use Rattle.ctl.specs.Rule.{Quantifier, release, operatorOf}
 use Rattle.circuit.specs.Logic.{Literal}
 use Rattle.circuit.specs.Variables.{Var, level}
 use Rattle.closure.specs.declared.row.Row.{Row}
+use Rattle.closure.specs.declared.join.Family.the-variants.{Release}
 use Rattle.closure.specs.declared.level.Fixpoint.{Fixpoint}
 use Rattle.closure.specs.Memory.{Memory, rowAt, SmallRow, Sized, nodePlace, levelSize, levelBase, levelTotal}
 use Rattle.closure.specs.Inside.{RowIn}
@@ -32,7 +33,7 @@ use Rattle.closure.proofs.InsideParts.{release-b, release-below, wordPl
 
 -- the node, its children and where its levels lie
 abbrev pub fixpoint : Table → ℕ → Bool → ℕ → ℕ → Fixpoint
-fixpoint T i e a b = record { node = i; a = a; b = b; every = e; base = levelBase T i }
+fixpoint T i e a b = record { family = Release; node = i; a = a; b = b; every = e; base = levelBase T i }
 
 module _ (T : Table) (i : ℕ) (q : Quantifier) (a b : ℕ) (h : i < length (T .nodes)) (op : operatorOf (nodeAt T i) ≡ release q a b)
     (m : ℕ) (some : 0 < m) (few : m < length (T .states)) where

@@ -7,15 +7,16 @@ use mathlib.Core.Path.{_≡_, refl, sym, subst, _∙_}
 use mathlib.Core.Bool.{Bool, true, false, _||_, false≢true}
 use mathlib.Core.Logic.{⊎-elim}
 use mathlib.Core.List.{List}
+use borrow.Author.Tests.{not-true}
 use Rattle.table.specs.Table.{Table}
 use Rattle.table.proofs.Bools.{or-parts, or-neither}
 use Rattle.circuit.specs.Logic.{Literal}
 use Rattle.circuit.specs.Variables.{Var}
 use Rattle.closure.specs.declared.row.Report.{Report}
-use Rattle.closure.specs.Memory.{Memory, Knowledge, knowledge, Sized, bothReports, total}
+use Rattle.closure.specs.Memory.{Memory, Knowledge, knowledge, Sized, bothReports, quiet, total}
 use Rattle.closure.specs.Inside.{Inside, Clash}
 use Rattle.closure.specs.Advance.{ForcedBy, Advance}
-use Rattle.closure.specs.Sweep.{Stepped, failing, eachBelow, ordered}
+use Rattle.closure.specs.Sweep.{Stepped, failing, Visit, eachWith, eachBelow, ordered}
 
 -- a step of the memory advances
 abbrev pub Advances : Table → (Knowledge → Type 0) → Memory → Stepped → Type 0
@@ -84,19 +85,30 @@ module _ (T : Table) where
     more = λ c. absurd (false≢true c);
   }
 
-  -- a step for each number below n
-  pub advance-each : (f : ℕ → Memory → Stepped) (Q : ℕ → Knowledge → Type 0) (n : ℕ)
-      → ((k : ℕ) → k < n → (M : Memory) → Sized T M → Advances T (Q k) M (f k M))
-      → (M : Memory) → Sized T M → Advances T (λ K. (k : ℕ) → k < n → Q k K) M (eachBelow f n M)
-  unfolding eachBelow
-  advance-each f Q zero step M sized = advance-so (λ e k l. absurd (not-suc-le-zero l)) (advance-failing false M sized (λ e. absurd (false≢true e)))
-  advance-each f Q (suc n) step M sized =
-      let before = advance-each f Q n (λ k l. step k (omega arith)) M sized in
-      advance-so (λ q k l. all q k l (decLt k n)) (advance-then before (step n (omega arith) (eachBelow f n M .memory) (before .sized)))
+  -- a step for each number below n, each with what the one before it left, of which R is so
+  pub advance-with : {S : Type 0} (f : ℕ → S → Memory → Visit S) (Q : ℕ → Knowledge → Type 0) (R : S → Knowledge → Type 0) (n : ℕ)
+      → ((k : ℕ) → k < n → (s : S) (M : Memory) → Sized T M → R s (knowledge T M)
+      → Advances T (Q k) M (f k s M .done) × R (f k s M .left) (knowledge T (f k s M .done .memory)))
+      → (s : S) (M : Memory) → Sized T M → R s (knowledge T M)
+      → Advances T (λ K. (k : ℕ) → k < n → Q k K) M (eachWith f n s M .done) × R (eachWith f n s M .left) (knowledge T (eachWith f n s M .done .memory))
+  unfolding eachWith
+  advance-with f Q R zero step s M sized r =
+      (advance-so (λ e k l. absurd (not-suc-le-zero l)) (advance-failing false M sized (λ e. absurd (false≢true e))), r)
+  advance-with f Q R (suc n) step s M sized r =
+      let before = advance-with f Q R n (λ k l. step k (omega arith)) s M sized r in
+      let next = step n (omega arith) (eachWith f n s M .left) (eachWith f n s M .done .memory) (before .0 .sized) (before .1) in
+      (advance-so (λ q k l. all q k l (decLt k n)) (advance-then (before .0) (next .0)), next .1)
     where
       all : {K : Knowledge} → ((k : ℕ) → k < n → Q k K) × Q n K → (k : ℕ) → k < suc n → Dec (k < n) → Q k K
       all q k l (yes h) = q .0 k h
       all {K} q k l (no h) = let e : n ≡ k = omega (arith, h) in subst (λ (j : ℕ). Q j K) e (q .1)
+
+  -- with nothing to leave
+  pub advance-each : (f : ℕ → Memory → Stepped) (Q : ℕ → Knowledge → Type 0) (n : ℕ)
+      → ((k : ℕ) → k < n → (M : Memory) → Sized T M → Advances T (Q k) M (f k M))
+      → (M : Memory) → Sized T M → Advances T (λ K. (k : ℕ) → k < n → Q k K) M (eachBelow f n M)
+  unfolding eachBelow
+  advance-each f Q n step M sized = advance-with {S = Unit {0}} (λ k s M. record { done = f k M; left = s }) Q (λ s K. Unit {0}) n (λ k l s M z r. (step k l M z, tt)) tt M sized tt .0
 
 -- ---- upward or downward
 
@@ -109,9 +121,25 @@ ordered-twice true n k l = omega arith
 ordered-twice false n k l = refl
 
 -- either way each number has its turn
-pub advance-ordered : (T : Table) (down : Bool) (f : ℕ → Memory → Stepped) (Q : ℕ → Knowledge → Type 0) (n : ℕ)
-    → ((k : ℕ) → k < n → (M : Memory) → Sized T M → Advances T (Q k) M (f k M))
-    → (M : Memory) → Sized T M → Advances T (λ K. (k : ℕ) → k < n → Q k K) M (eachBelow (λ k. f (ordered down n k)) n M)
-advance-ordered T down f Q n step M sized = advance-so T
-    (λ q k l. subst (λ (j : ℕ). Q j (knowledge T M)) (ordered-twice down n k l) (q (ordered down n k) (ordered-below down n k l)))
-    (advance-each T (λ k. f (ordered down n k)) (λ k. Q (ordered down n k)) n (λ k l. step (ordered down n k) (ordered-below down n k l)) M sized)
+pub advance-ordered : (T : Table) (down : Bool) {S : Type 0} (f : ℕ → S → Memory → Visit S) (Q : ℕ → Knowledge → Type 0) (R : S → Knowledge → Type 0) (n : ℕ)
+    → ((k : ℕ) → k < n → (s : S) (M : Memory) → Sized T M → R s (knowledge T M)
+    → Advances T (Q k) M (f k s M .done) × R (f k s M .left) (knowledge T (f k s M .done .memory)))
+    → (s : S) (M : Memory) → Sized T M → R s (knowledge T M)
+    → Advances T (λ K. (k : ℕ) → k < n → Q k K) M (eachWith (λ k. f (ordered down n k)) n s M .done)
+    × R (eachWith (λ k. f (ordered down n k)) n s M .left) (knowledge T (eachWith (λ k. f (ordered down n k)) n s M .done .memory))
+advance-ordered T down f Q R n step s M sized r =
+    let all = advance-with T (λ k. f (ordered down n k)) (λ k. Q (ordered down n k)) R n (λ k l. step (ordered down n k) (ordered-below down n k l)) s M sized r in (
+      advance-so T (λ q k l. subst (λ (j : ℕ). Q j (knowledge T M)) (ordered-twice down n k l) (q (ordered down n k) (ordered-below down n k l))) (all .0),
+      all .1,
+    )
+
+-- ---- quiet steps
+
+-- nothing was added, and nothing is known both ways
+pub quiet-parts : (r : Report) → quiet r ≡ true → (r .changed ≡ false) × (r .fails ≡ false)
+quiet-parts r e = or-neither (r .changed) (r .fails) (not-true _ e)
+
+-- what is then so of the rows as they were is so of them as they are
+pub quiet-still : {T : Table} {Q : Knowledge → Type 0} {M N : Memory} {r : Report} → Advance T Q M N r → quiet r ≡ true → Q (knowledge T N)
+quiet-still {T} {Q} {M} {N} {r} a e =
+    let p = quiet-parts r e in subst (λ (m : Memory). Q (knowledge T m)) (sym (a .unchanged (p .0))) (a .quiet (p .0) (p .1))

@@ -2,8 +2,8 @@
 -- upward or downward.
 use Prim.Native.Nat.{ℕ, suc, _<_}
 use native.Mathlib.Omega.{arith}
-use mathlib.Core.Path.{_≡_, sym, ap, subst, _∙_}
-use mathlib.Core.Bool.{Bool, true, false}
+use mathlib.Core.Path.{_≡_, refl, sym, ap, subst, _∙_}
+use mathlib.Core.Bool.{Bool, true, false, false≢true}
 use mathlib.Core.List.{List}
 use lib.ListN.{length, getD}
 use Rattle.table.specs.Table.{Table, nodeAt}
@@ -15,21 +15,24 @@ use Rattle.circuit.specs.Logic.{Literal}
 use Rattle.circuit.specs.Variables.{Var, ahead, level, value}
 use Rattle.closure.specs.declared.row.Row.{Row}
 use Rattle.closure.specs.declared.join.Joined.{Joined}
+use Rattle.closure.specs.declared.join.Family.the-variants.{Release}
 use Rattle.closure.specs.declared.level.Fixpoint.{Fixpoint}
+use Rattle.closure.specs.declared.levels.Seen.{Seen}
 use Rattle.closure.specs.Row.{ClearAt, clashes}
 use Rattle.closure.specs.Rules.{isEvery, eitherRow, joinRelease}
-use Rattle.closure.specs.Memory.{Memory, knowledge, SmallRow, Sized, stepPlace, nodePlace, levelBase}
+use Rattle.closure.specs.Memory.{Memory, Knowledge, knowledge, SmallRow, Sized, stepPlace, nodePlace, levelBase}
 use Rattle.closure.specs.Rest.{RestLevel}
 use Rattle.closure.specs.Inside.{RowIn, Clash}
 use Rattle.closure.specs.Advance.{ForcedBy}
-use Rattle.closure.specs.Sweep.{nodeRow, addLevel, levelWith, levelStep, levelsFrom}
+use Rattle.closure.specs.Sweep.{Visit, nodeRow, addLevel, levelWith, levelStep, alike, nothingSeen, levelVisit, levelsFrom}
+use Rattle.closure.proofs.Visits.{alike-parts, visit-alike, visit-other}
 use Rattle.closure.proofs.RowLaws.{clear-row}
 use Rattle.closure.proofs.RulesSmall.{either-small, join-level-small, join-a-small, join-b-small, join-ahead-small}
 use Rattle.closure.proofs.AheadSound.{aheadOver}
 use Rattle.closure.proofs.AheadOf.{level-ahead-in, level-back-steps-in, level-back-end-in}
 use Rattle.closure.proofs.JoinSound.{join-level-in, join-a-in, join-b-in, join-ahead-in, join-clash}
 use Rattle.closure.proofs.InsideLess.{advance-less}
-use Rattle.closure.proofs.Advances.{Advances, advance-so, advance-then, advance-failing, advance-ordered}
+use Rattle.closure.proofs.Advances.{Advances, advance-so, advance-then, advance-failing, advance-ordered, quiet-still}
 use Rattle.closure.proofs.AddAdvance.{rows-small, levels-small}
 use Rattle.closure.proofs.AddPlaces.{Given, closed, advance-node}
 use Rattle.closure.proofs.AddLevel.{fixpoint, advance-level}
@@ -131,7 +134,11 @@ module _ (T : Table) (wf : Wellformed T) (targets : List ℕ) (ends : (s : ℕ) 
     abbrev fix : Fixpoint
     fix = fixpoint T i (isEvery q) a b
 
-    level-at : Advances T (λ K. (s : ℕ) → s < length (T .states) → RestLevel T K q i a b m s) M (levelWith targets (length (T .states)) fix m under J M)
+    -- the level is at rest
+    abbrev AtRest : Knowledge → Type 0
+    AtRest K = (s : ℕ) → s < length (T .states) → RestLevel T K q a b (K .levels i (suc m)) (K .levels i m) s
+
+    level-at : Advances T AtRest M (levelWith targets (length (T .states)) fix m under J M)
     level-at =
         let fail = advance-failing T (J .fails) M sized clash in
         let up = advance-level T wf M sized (J .level) (join-level-small above x y N above-small x-small y-small N-small) i q a b h op (isEvery q) (suc m) few level-in in
@@ -153,35 +160,67 @@ module _ (T : Table) (wf : Wellformed T) (targets : List ℕ) (ends : (s : ℕ) 
         advance-so T (λ z s l. record {
           either-clear = fails-not (z .0 .0 .0 .0) s .0;
           ahead-clear = fails-not (z .0 .0 .0 .0) s .1;
-          level = z .0 .0 .0 .1 .0 s;
+          up = z .0 .0 .0 .1 .0 s;
           left = z .0 .0 .1 .0 s;
           right = z .0 .1 .0 s;
           back = record { steps = z .1 s l .0; ends = z .1 s l .1 };
           clear = z .0 .0 .0 .1 .1 s;
         }) (advance-then T four back)
 
-    level-with : Advances T (λ K. (s : ℕ) → s < length (T .states) → RestLevel T K q i a b m s) M
-        (levelStep targets (length (T .states)) fix m M)
+    level-with : Advances T AtRest M (levelStep targets (length (T .states)) fix m M)
     unfolding levelStep
-    level-with = subst (λ (r : Row). Advances T (λ K. (s : ℕ) → s < length (T .states) → RestLevel T K q i a b m s) M
-        (levelWith targets (length (T .states)) fix m under (joinRelease above x y r) M)) (ahead-ends T wf targets ends q under M) level-at
+    level-with = subst (λ (r : Row). Advances T AtRest M (levelWith targets (length (T .states)) fix m under (joinRelease above x y r) M))
+        (ahead-ends T wf targets ends q under M) level-at
+
+    -- ---- a level like the one seen last is passed over
+
+    -- the level seen last is at rest
+    abbrev SeenRest : Seen → Knowledge → Type 0
+    SeenRest v K = v .quiet ≡ true → (s : ℕ) → s < length (T .states) → RestLevel T K q a b (v .level) (v .below) s
+
+    abbrev Visits : Visit Seen → Type 0
+    Visits z = Advances T AtRest M (z .done) × SeenRest (z .left) (knowledge T (z .done .memory))
+
+    visit : (v : Seen) → SeenRest v (knowledge T M) → Visits (levelVisit targets (length (T .states)) fix m v M)
+    visit v rest = go (alike v above under) refl
+      where
+        go : (like : Bool) → alike v above under ≡ like → Visits (levelVisit targets (length (T .states)) fix m v M)
+        go true e =
+            let p = alike-parts v above under e in
+            subst Visits (sym (visit-alike targets (length (T .states)) fix m v M e)) (
+              advance-so T (λ z s l. subst (λ (r : Row). RestLevel T (knowledge T M) q a b r under s) (p .1)
+                  (subst (λ (r : Row). RestLevel T (knowledge T M) q a b (v .level) r s) (p .2) (rest (p .0) s l)))
+                  (advance-failing T false M sized (λ f. absurd (false≢true f))),
+              rest,
+            )
+        go false e = subst Visits (sym (visit-other targets (length (T .states)) fix m v M e)) (
+          level-with,
+          quiet-still {Q = λ K. (s : ℕ) → s < length (T .states) → RestLevel T K q a b above under s} (advance-so T (λ z. z) level-with),
+        )
 
 -- the levels of a fixed-point node, whose words begin at `base`
 pub levels-advance : (T : Table) (wf : Wellformed T) (targets : List ℕ) → ((s : ℕ) → s < 32 → getD targets s 0 ≡ targetSet (T .steps) s)
     → (i : ℕ) → i < length (T .nodes) → (q : Quantifier) (a b : ℕ) → operatorOf (nodeAt T i) ≡ release q a b
     → (base : ℕ) → base ≡ levelBase T i → (down : Bool) (M : Memory) → Sized T M
-    → Advances T (λ K. (m : ℕ) → m < length (T .states) → (s : ℕ) → s < length (T .states) → RestLevel T K q i a b m s) M
-    (levelsFrom targets (length (T .states)) (record { node = i; a = a; b = b; every = isEvery q; base = base }) down (length (T .states)) M)
+    → Advances T (λ K. (m : ℕ) → m < length (T .states) → (s : ℕ) → s < length (T .states) → RestLevel T K q a b (K .levels i (suc m)) (K .levels i m) s) M
+    (levelsFrom targets (length (T .states)) (record { family = Release; node = i; a = a; b = b; every = isEvery q; base = base }) down (length (T .states)) M .done)
 levels-advance T wf targets ends i h q a b op base e down M sized =
-    advance-ordered T down (levelStep targets (length (T .states)) (record { node = i; a = a; b = b; every = isEvery q; base = base }))
-    (λ m K. (s : ℕ) → s < length (T .states) → RestLevel T K q i a b m s) (length (T .states)) one M sized
+    advance-ordered T down (levelVisit targets (length (T .states)) (record { family = Release; node = i; a = a; b = b; every = isEvery q; base = base }))
+    (λ m K. (s : ℕ) → s < length (T .states) → RestLevel T K q a b (K .levels i (suc m)) (K .levels i m) s)
+    (λ v K. v .quiet ≡ true → (s : ℕ) → s < length (T .states) → RestLevel T K q a b (v .level) (v .below) s)
+    (length (T .states)) one nothingSeen M sized (λ f. absurd (false≢true f)) .0
   where
-    one : (m : ℕ) → m < length (T .states) → (N : Memory) → Sized T N → Advances T (λ K. (s : ℕ) → s < length (T .states) → RestLevel T K q i a b m s) N
-        (levelStep targets (length (T .states)) (record { node = i; a = a; b = b; every = isEvery q; base = base }) m N)
-    one m l N sized-N =
+    Visits : (a b base m : ℕ) (v : Seen) → Memory → Type 0
+    Visits a b base m v N =
+        let z = levelVisit targets (length (T .states)) (record { family = Release; node = i; a = a; b = b; every = isEvery q; base = base }) m v N in
+        Advances T (λ K. (s : ℕ) → s < length (T .states) → RestLevel T K q a b (K .levels i (suc m)) (K .levels i m) s) N (z .done)
+        × (z .left .quiet ≡ true → (s : ℕ) → s < length (T .states) → RestLevel T (knowledge T (z .done .memory)) q a b (z .left .level) (z .left .below) s)
+
+    one : (m : ℕ) → m < length (T .states) → (v : Seen) (N : Memory) → Sized T N
+        → (v .quiet ≡ true → (s : ℕ) → s < length (T .states) → RestLevel T (knowledge T N) q a b (v .level) (v .below) s) → Visits a b base m v N
+    one m l v N sized-N rest =
         let same = release-b (nodeAt T i) q a b op in
-        subst (λ (k : ℕ). Advances T (λ K. (s : ℕ) → s < length (T .states) → RestLevel T K q i a b m s) N
-        (levelStep targets (length (T .states)) (record { node = i; a = a; b = b; every = isEvery q; base = k }) m N)) (sym e)
-        (subst (λ (c : ℕ). Advances T (λ K. (s : ℕ) → s < length (T .states) → RestLevel T K q i a c m s) N
-        (levelStep targets (length (T .states)) (fixpoint T i (isEvery q) a c) m N)) same
-        (level-with T wf targets ends i h q a m l (op ∙ ap (release q a) (sym same)) N sized-N))
+        subst (λ (k : ℕ). Visits a b k m v N) (sym e)
+        (subst (λ (c : ℕ). (v .quiet ≡ true → (s : ℕ) → s < length (T .states) → RestLevel T (knowledge T N) q a c (v .level) (v .below) s)
+        → Visits a c (levelBase T i) m v N) same
+        (visit T wf targets ends i h q a m l (op ∙ ap (release q a) (sym same)) N sized-N v) rest)

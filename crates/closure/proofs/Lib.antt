@@ -59,6 +59,7 @@ pub mod PlainAdvance
 pub mod NewRows
 pub mod BackAdvance
 pub mod NextAdvance
+pub mod Visits
 pub mod LevelAdvance
 pub mod NodeAdvance
 pub mod SweepAdvance

@@ -2,12 +2,13 @@
 use Prim.Native.Nat.{ℕ, suc, _-_, _<_}
 use native.Mathlib.Omega.{arith}
 use mathlib.Core.Path.{_≡_, refl, sym, ap, subst, _∙_}
-use mathlib.Core.Bool.{Bool, true, false, cond}
+use mathlib.Core.Bool.{Bool, true, false, cond, false≢true}
 use mathlib.Core.List.{List}
 use borrow.Author.Tests.{eqb-true}
 use lib.Dec.{eqb}
 use lib.ListN.{length, getD}
 use Rattle.sets.specs.Member.{member}
+use Rattle.sets.proofs.Laws.{member-zero}
 use Rattle.sets.proofs.SetOf.{setOf-cong}
 use Rattle.table.specs.declared.record.State.{State}
 use Rattle.table.specs.Table.{Table, tableOf, nodeAt, statesPart}
@@ -37,6 +38,13 @@ use Rattle.closure.proofs.InsideParts.{level-last}
 -- node i, whose operator is given, is at rest at each state and known one way there
 abbrev pub NodeRest : Table → ℕ → Operator → Knowledge → Type 0
 NodeRest T i o K = (s : ℕ) → s < length (T .states) → RestNode T K i o s × ClearAt s (K .nodes i)
+
+-- the nodes of a set are
+abbrev pub Resting : Table → ℕ → Knowledge → Type 0
+Resting T resting K = (i : ℕ) → i < length (T .nodes) → member resting i ≡ true → NodeRest T i (operatorOf (nodeAt T i)) K
+
+pub none-rest : (T : Table) (K : Knowledge) → Resting T 0 K
+none-rest T K i l m = absurd (false≢true (sym (member-zero i) ∙ m))
 
 -- the states with p in their label, as the bytes have them
 labelled-read : (table : List ℕ) → Packed table → (p : ℕ)

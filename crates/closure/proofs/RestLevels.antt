@@ -45,7 +45,7 @@ module _ (T : Table) (wf : Wellformed T) (K : Knowledge) (small : Small K) (rest
   -- ---- release
 
   module _ (q : Quantifier) (a b : ℕ) (e : operatorOf (nodeAt T i) ≡ release q a b) (ha : a < length (T .nodes)) (hb : b < length (T .nodes))
-      (r : (s : ℕ) → s < length (T .states) → (m : ℕ) → m < length (T .states) → RestLevel T K q i a b m s) where
+      (r : (s : ℕ) → s < length (T .states) → (m : ℕ) → m < length (T .states) → RestLevel T K q a b (K .levels i (suc m)) (K .levels i m) s) where
     level-is : (m s : ℕ) → Is T K (literal true (level i m s)) (K .levels i m) s
     unfolding rowOf placeOf
     level-is m s = record { row-is = refl; place-is = refl }
@@ -104,7 +104,7 @@ module _ (T : Table) (wf : Wellformed T) (K : Knowledge) (small : Small K) (rest
             (value-is T K rest a ha false s)
             (record { row-is = ap (turned false) is-ahead; place-is = refl })
             (λ d. value-other T a s (ahead i (suc m) s) refl (ap (λ l. l .var) d))
-            (either-and _ _ _ _ s (r s l m k .either-clear) (r s l m k .level) (r s l m k .left) (r s l m k .right))),
+            (either-and _ _ _ _ s (r s l m k .either-clear) (r s l m k .up) (r s l m k .left) (r s l m k .right))),
         subst (ClearAt s) (sym is-either) (r s l m k .either-clear),
       )
 
@@ -114,7 +114,7 @@ module _ (T : Table) (wf : Wellformed T) (K : Knowledge) (small : Small K) (rest
         two-rows T K (level-is (suc m) s) (value-is T K rest b hb true s)
             (record { row-is = is-either; place-is = refl })
             (λ d. value-other T b s (either i (suc m) s) refl (ap (λ l. l .var) d))
-            (level-and _ _ _ _ s (r s l m k .either-clear) (r s l m k .level) (r s l m k .left) (r s l m k .right)),
+            (level-and _ _ _ _ s (r s l m k .either-clear) (r s l m k .up) (r s l m k .left) (r s l m k .right)),
         r s l m k .clear,
       )
 

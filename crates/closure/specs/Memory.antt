@@ -34,6 +34,10 @@ reportOf ws at x = record {
 abbrev pub bothReports : Report → Report → Report
 bothReports a b = record { changed = a .changed || b .changed; fails = a .fails || b .fails }
 
+-- nothing was added, and nothing is known both ways
+abbrev pub quiet : Report → Bool
+quiet r = not (r .changed || r .fails)
+
 -- ---- the memory of a closure
 
 pub record Memory : Type 0 where

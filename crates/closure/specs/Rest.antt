@@ -60,15 +60,15 @@ module _ (T : Table) (K : Knowledge) where
     pub up : WithinAt s q r
     pub down : WithinAt s r q
 
-  -- level m + 1 of node i at state s
-  pub record RestLevel (q : Quantifier) (i a b m s : ℕ) : Type 0 where
-    pub either-clear : ClearAt s (eitherRow (K .levels i (suc m)) (K .nodes a) (K .nodes b) (aheadOf q (K .levels i m)))
-    pub ahead-clear : ClearAt s (joinRelease (K .levels i (suc m)) (K .nodes a) (K .nodes b) (aheadOf q (K .levels i m)) .ahead)
-    pub level : WithinAt s (joinRelease (K .levels i (suc m)) (K .nodes a) (K .nodes b) (aheadOf q (K .levels i m)) .level) (K .levels i (suc m))
-    pub left : WithinAt s (joinRelease (K .levels i (suc m)) (K .nodes a) (K .nodes b) (aheadOf q (K .levels i m)) .a) (K .nodes a)
-    pub right : WithinAt s (joinRelease (K .levels i (suc m)) (K .nodes a) (K .nodes b) (aheadOf q (K .levels i m)) .b) (K .nodes b)
-    pub back : RestBack q (joinRelease (K .levels i (suc m)) (K .nodes a) (K .nodes b) (aheadOf q (K .levels i m)) .more) (K .levels i m) s
-    pub clear : ClearAt s (K .levels i (suc m))
+  -- a level over the one below it, by their rows, at state s
+  pub record RestLevel (q : Quantifier) (a b : ℕ) (level below : Row) (s : ℕ) : Type 0 where
+    pub either-clear : ClearAt s (eitherRow level (K .nodes a) (K .nodes b) (aheadOf q below))
+    pub ahead-clear : ClearAt s (joinRelease level (K .nodes a) (K .nodes b) (aheadOf q below) .ahead)
+    pub up : WithinAt s (joinRelease level (K .nodes a) (K .nodes b) (aheadOf q below) .level) level
+    pub left : WithinAt s (joinRelease level (K .nodes a) (K .nodes b) (aheadOf q below) .a) (K .nodes a)
+    pub right : WithinAt s (joinRelease level (K .nodes a) (K .nodes b) (aheadOf q below) .b) (K .nodes b)
+    pub back : RestBack q (joinRelease level (K .nodes a) (K .nodes b) (aheadOf q below) .more) below s
+    pub clear : ClearAt s level
 
   -- node i, whose operator is given, at state s
   abbrev pub RestNode : ℕ → Operator → ℕ → Type 0
@@ -78,7 +78,7 @@ module _ (T : Table) (K : Knowledge) where
   RestNode i (conjunction a b) s = cond (eqb a b) (RestSame (K .nodes i) (K .nodes a) s) (RestBoth every i a b s)
   RestNode i (disjunction a b) s = cond (eqb a b) (RestSame (K .nodes i) (K .nodes a) s) (RestBoth some i a b s)
   RestNode i (next q a) s = WithinAt s (aheadOf q (K .nodes a)) (K .nodes i) × RestBack q (newOf (K .nodes i) (aheadOf q (K .nodes a))) (K .nodes a) s
-  RestNode i (release q a b) s = (m : ℕ) → m < length (T .states) → RestLevel q i a b m s
+  RestNode i (release q a b) s = (m : ℕ) → m < length (T .states) → RestLevel q a b (K .levels i (suc m)) (K .levels i m) s
 
   pub record Rest : Type 0 where
     pub kept : (s : ℕ) → s < length (T .states) → RestKept s

@@ -47,3 +47,7 @@ clashes r = not (eqb (bitAnd (r .yes) (r .no)) 0)
 -- all that either row knows
 abbrev pub union : Row → Row → Row
 union r q = record { yes = bitOr (r .yes) (q .yes); no = bitOr (r .no) (q .no) }
+
+-- two rows are the same
+abbrev pub sameRow : Row → Row → Bool
+sameRow r q = eqb (r .yes) (q .yes) && eqb (r .no) (q .no)

@@ -8,6 +8,8 @@ use lib.Dec.{eqb, ltb}
 use Rattle.sets.specs.Member.{member, setOf}
 use Rattle.ctl.specs.Rule.{Quantifier, every, some}
 use Rattle.closure.specs.declared.row.Row.{Row}
+use Rattle.closure.specs.declared.join.Family.{Family}
+use Rattle.closure.specs.declared.join.Family.the-variants.{Release}
 use Rattle.closure.specs.declared.join.Joined.{Joined}
 use Rattle.closure.specs.Row.{known, without, only, clashes}
 
@@ -84,6 +86,10 @@ joinWith either level a b ahead = record {
 
 abbrev pub joinRelease : Row → Row → Row → Row → Joined
 joinRelease level a b ahead = joinWith (eitherRow level a b ahead) level a b ahead
+
+-- what a level joins, by the family of its node
+abbrev pub joinOf : Family → Row → Row → Row → Row → Joined
+joinOf Release level a b ahead = joinRelease level a b ahead
 
 -- ---- K of a state, and its steps
 

@@ -1,11 +1,11 @@
 -- Propagation as a function of the memory: each rule of Rules.antt applied where its rows lie, at every state, node and level. The code's
 -- contracts equate it with these.
 use Prim.Native.Nat.{ℕ, zero, suc, _+_, _*_, _-_}
-use mathlib.Core.Bool.{Bool, true, false, cond}
+use mathlib.Core.Bool.{Bool, true, false, cond, _&&_, _||_}
 use mathlib.Core.List.{List}
 use lib.Dec.{eqb}
 use lib.ListN.{getD}
-use Rattle.sets.specs.Member.{setOf}
+use Rattle.sets.specs.Member.{member, setOf}
 use Rattle.table.specs.Table.{Table, tableOf, nodeAt, statesPart}
 use Rattle.table.specs.StateSets.{labelledWord}
 use Rattle.ctl.specs.Rule.{Quantifier, every, some, Operator, constant, atom, negation, conjunction, disjunction, next, release, operatorOf}
@@ -13,10 +13,12 @@ use Rattle.closure.specs.declared.row.Row.{Row}
 use Rattle.closure.specs.declared.row.Report.{Report}
 use Rattle.closure.specs.declared.net.Net.{Net}
 use Rattle.closure.specs.declared.level.Fixpoint.{Fixpoint}
+use Rattle.closure.specs.declared.levels.Seen.{Seen}
 use Rattle.closure.specs.declared.join.Joined.{Joined}
-use Rattle.closure.specs.Row.{turned}
-use Rattle.closure.specs.Rules.{isEvery, row, newOf, isNone, aheadRow, andOutput, andInput, joinRelease, keptRow, keptSteps, openStarts, startKept, startRoot, constantRow}
-use Rattle.closure.specs.Memory.{Memory, rowAt, joined, reportOf, bothReports, stepPlace, nodePlace, keptPlace}
+use Rattle.closure.specs.declared.join.Family.the-variants.{Release}
+use Rattle.closure.specs.Row.{turned, sameRow}
+use Rattle.closure.specs.Rules.{isEvery, row, newOf, isNone, aheadRow, andOutput, andInput, joinOf, keptRow, keptSteps, openStarts, startKept, startRoot, constantRow}
+use Rattle.closure.specs.Memory.{Memory, rowAt, joined, reportOf, bothReports, quiet, stepPlace, nodePlace, keptPlace}
 use Rattle.closure.specs.Back.{quietReport, backRows, backRow, backReport}
 
 -- ---- one thing after the other
@@ -50,10 +52,26 @@ addWord at x M = record { memory = memory (M .rows) (joined (M .words) at x); re
 abbrev pub nodeRow : Memory → ℕ → Row
 nodeRow M i = rowAt (M .rows) (nodePlace i)
 
--- for each number below k, up or down
+-- a step of the memory that also leaves something for the next
+pub record Visit (S : Type 0) : Type 0 where
+  pub done : Stepped
+  pub left : S
+
+-- nothing is done, and what there was is left
+abbrev pub passed : {S : Type 0} → S → Memory → Visit S
+passed s M = record { done = failing false M; left = s }
+
+-- for each number below k, each with what the one before it left
+unfoldable pub eachWith : {S : Type 0} → (ℕ → S → Memory → Visit S) → ℕ → S → Memory → Visit S
+eachWith f zero s M = passed s M
+eachWith f (suc k) s M =
+    let p = eachWith f k s M in
+    let v = f k (p .left) (p .done .memory) in
+    record { done = p .done andThen (λ _. v .done); left = v .left }
+
+-- the same, with nothing to leave
 unfoldable pub eachBelow : (ℕ → Memory → Stepped) → ℕ → Memory → Stepped
-eachBelow f zero M = failing false M
-eachBelow f (suc k) M = eachBelow f k M andThen f k
+eachBelow f k M = eachWith {S = Unit {0}} (λ k s M. record { done = f k M; left = s }) k tt M .done
 
 -- the k-th of n numbers, going up or going down
 abbrev pub ordered : Bool → ℕ → ℕ → ℕ
@@ -100,7 +118,7 @@ module _ (targets : List ℕ) (n : ℕ) (x : Fixpoint) (m : ℕ) where
 
   -- level m + 1 over level m, which is `below`, with N as its ends say
   abbrev pub joinedAt : Row → Memory → Joined
-  joinedAt below M = joinRelease (levelAt n x (suc m) M) (nodeRow M (x .a)) (nodeRow M (x .b)) (aheadIn targets n (x .every) below M)
+  joinedAt below M = joinOf (x .family) (levelAt n x (suc m) M) (nodeRow M (x .a)) (nodeRow M (x .b)) (aheadIn targets n (x .every) below M)
 
   abbrev pub levelWith : Row → Joined → Memory → Stepped
   levelWith below J M = addJoined J M andThen goBackMore targets n (x .every) (J .more) below (addLevel n x m)
@@ -108,9 +126,26 @@ module _ (targets : List ℕ) (n : ℕ) (x : Fixpoint) (m : ℕ) where
   unfoldable pub levelStep : Memory → Stepped
   levelStep M = levelWith (levelAt n x m M) (joinedAt (levelAt n x m M) M) M
 
+-- the level seen last added nothing, and had these rows
+abbrev pub alike : Seen → Row → Row → Bool
+alike v level below = v .quiet && (sameRow (v .level) level && sameRow (v .below) below)
+
+abbrev pub nothingSeen : Seen
+nothingSeen = record { quiet = false; level = row 0 0; below = row 0 0 }
+
+abbrev pub levelLook : List ℕ → ℕ → Fixpoint → ℕ → Memory → Visit Seen
+levelLook targets n x m M = record {
+  done = levelStep targets n x m M;
+  left = record { quiet = quiet (levelStep targets n x m M .report); level = levelAt n x (suc m) M; below = levelAt n x m M };
+}
+
+-- a level like the one seen last is passed over
+unfoldable pub levelVisit : List ℕ → ℕ → Fixpoint → ℕ → Seen → Memory → Visit Seen
+levelVisit targets n x m v M = cond (alike v (levelAt n x (suc m) M) (levelAt n x m M)) (passed v M) (levelLook targets n x m M)
+
 -- the first k of the levels of a node, upward or downward
-abbrev pub levelsFrom : List ℕ → ℕ → Fixpoint → Bool → ℕ → Memory → Stepped
-levelsFrom targets n x down k M = eachBelow (λ m. levelStep targets n x (ordered down n m)) k M
+abbrev pub levelsFrom : List ℕ → ℕ → Fixpoint → Bool → ℕ → Memory → Visit Seen
+levelsFrom targets n x down k M = eachWith (λ m. levelVisit targets n x (ordered down n m)) k nothingSeen M
 
 -- ---- nodes
 
@@ -142,7 +177,7 @@ module _ (table targets bases : List ℕ) (n : ℕ) (down : Bool) (i : ℕ) wher
   nodeStep (disjunction a b) M = cond (eqb a b) (sameStep i true a M) (bothStep i false a b M)
   nodeStep (next q a) M = nextStep targets n i (isEvery q) a M
   nodeStep (release q a b) M =
-      levelsFrom targets n (record { node = i; a = a; b = b; every = isEvery q; base = getD bases i 0 }) down n M
+      levelsFrom targets n (record { family = Release; node = i; a = a; b = b; every = isEvery q; base = getD bases i 0 }) down n M .done
 
 -- ---- K and the initial states
 
@@ -158,13 +193,32 @@ startStep initial root M =
     andThen addRow keptPlace (startKept initial (rowAt (M .rows) keptPlace) (nodeRow M root))
     andThen addRow (nodePlace root) (startRoot initial (rowAt (M .rows) keptPlace))
 
--- ---- a sweep: K, the initial states, and each node, up or down
+-- ---- a sweep: K, the initial states, and each node, up or down. `resting` has nodes that are at rest
+
+-- the nodes at rest after a step: with one more after its own, where nothing was added, else none
+abbrev pub restingAfter : Report → ℕ → ℕ → ℕ
+restingAfter r i resting = cond (quiet r) (setOf 32 (λ t. member resting t || eqb t i)) 0
 
 module _ (table : List ℕ) (net : Net) (targets bases : List ℕ) (down : Bool) where
-  -- the first k of the nodes
-  unfoldable pub nodesFrom : ℕ → Memory → Stepped
-  nodesFrom = eachBelow (λ k. let i = ordered down (net .nodes) k in
-      nodeStep table targets bases (net .states) down i (operatorOf (nodeAt (tableOf table) i)))
+  abbrev pub nodeLook : ℕ → ℕ → Memory → Visit ℕ
+  nodeLook i resting M =
+      let s = nodeStep table targets bases (net .states) down i (operatorOf (nodeAt (tableOf table) i)) M in
+      record { done = s; left = restingAfter (s .report) i resting }
 
-  unfoldable pub sweep : Memory → Stepped
-  sweep M = eachBelow (keptStep targets) (net .states) M andThen startStep (net .initial) (net .nodes - 1) andThen nodesFrom (net .nodes)
+  -- a node at rest is passed over
+  unfoldable pub nodeVisit : ℕ → ℕ → Memory → Visit ℕ
+  nodeVisit i resting M = cond (member resting i) (passed resting M) (nodeLook i resting M)
+
+  -- the first k of the nodes
+  unfoldable pub nodesFrom : ℕ → ℕ → Memory → Visit ℕ
+  nodesFrom k resting M = eachWith (λ k. nodeVisit (ordered down (net .nodes) k)) k resting M
+
+  -- K and the initial states
+  unfoldable pub startsStep : Memory → Stepped
+  startsStep M = eachBelow (keptStep targets) (net .states) M andThen startStep (net .initial) (net .nodes - 1)
+
+  unfoldable pub sweep : ℕ → Memory → Visit ℕ
+  sweep resting M =
+      let s = startsStep M in
+      let v = nodesFrom (net .nodes) (cond (s .report .changed) 0 resting) (s .memory) in
+      record { done = s andThen (λ _. v .done); left = v .left }

@@ -1,7 +1,12 @@
-// A level of release from what is known around it.
+// A level of a fixed-point node from what is known around it, by the node's family.
 use crate::row::Row;
 ghost use mathlib.Core.Path.{_≡_};
-ghost use Rattle.closure.specs.Rules.{joinRelease};
+ghost use Rattle.closure.specs.Rules.{joinRelease, joinOf};
+
+// What the levels of a fixed-point node join.
+pub enum Family {
+    Release,
+}
 
 // What the level and the children a and b get, N with what G adds to it, that alone, and whether G or N is known both ways.
 pub struct Joined {
@@ -14,7 +19,7 @@ pub struct Joined {
 }
 
 // G = a or N, and the level = b and G.
-pub fn join_release(level: Row, a: Row, b: Row, ahead: Row) -> Joined
+fn join_release(level: Row, a: Row, b: Row, ahead: Row) -> Joined
     ensures { λ r. ⌜ r ≡ joinRelease level a b ahead ⌝ }
 {
     let either_yes = a.yes | ahead.yes | level.yes;
@@ -43,5 +48,13 @@ pub fn join_release(level: Row, a: Row, b: Row, ahead: Row) -> Joined
             no: ahead_no & !ahead.no,
         },
         fails: either_yes & either_no != 0 || ahead_yes & ahead_no != 0,
+    }
+}
+
+pub fn join(family: Family, level: Row, a: Row, b: Row, ahead: Row) -> Joined
+    ensures { λ r. ⌜ r ≡ joinOf family level a b ahead ⌝ }
+{
+    match family {
+        Family::Release => join_release(level, a, b, ahead),
     }
 }

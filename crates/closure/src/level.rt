@@ -1,8 +1,9 @@
-// The levels of a fixed-point node: level 0 is the row of b and level n that of the node, the others lie in the lent words from `base` on.
+// A level of a fixed-point node: level 0 is the row of b and level n that of the node, the others lie in the lent words from `base` on.
 use crate::ahead::ahead;
 use crate::ahead::go_back;
+use crate::join::Family;
 use crate::join::Joined;
-use crate::join::join_release;
+use crate::join::join;
 use crate::row::Report;
 use crate::row::Row;
 use crate::row::add;
@@ -13,11 +14,12 @@ use crate::row::turn;
 ghost use mathlib.Core.Path.{_≡_};
 ghost use Prim.Native.Nat.{_≤_, _<_};
 ghost use lib.ListN.{length};
-ghost use Rattle.closure.specs.Sweep.{memory, stepped, goBackMore, levelAt, addLevel, addJoined, joinedAt, levelStep, levelsFrom};
+ghost use Rattle.closure.specs.Sweep.{memory, stepped, goBackMore, levelAt, addLevel, addJoined, joinedAt, levelStep};
 ghost use Rattle.closure.specs.Setting.{Fits};
 
-// A fixed-point node: its number and children, whether it is of every path, and where its levels lie.
+// A fixed-point node: its family, its number and children, whether it is of every path, and where its levels lie.
 pub struct Fixpoint {
+    pub family: Family,
     pub node: usize,
     pub a: usize,
     pub b: usize,
@@ -25,7 +27,7 @@ pub struct Fixpoint {
     pub base: usize,
 }
 
-fn level_row(rows: &[u32], words: &[u32], n: usize, x: Fixpoint, m: usize) -> Row
+pub fn level_row(rows: &[u32], words: &[u32], n: usize, x: Fixpoint, m: usize) -> Row
     requires { ⌜ Fits n x (now rows) (now words) ⌝ }
     requires { ⌜ m ≤ n ⌝ }
     ensures { λ r. ⌜ r ≡ levelAt n x m (memory (now (rows .entry)) (now (words .entry))) ⌝ }
@@ -72,7 +74,8 @@ fn joined_at(
     let level = level_row(rows, words, n, x, m + 1);
     let a = row_at(rows, 64 + 2 * x.a);
     let b = row_at(rows, 64 + 2 * x.b);
-    join_release(level, a, b, up)
+    let family = x.family;
+    join(family, level, a, b, up)
 }
 
 // Adds what the join gives to the level, a and b.
@@ -126,8 +129,8 @@ fn level_back(
     )
 }
 
-// Level m + 1 over level m: G = a or N, the level = b and G.
-fn level_step(
+// Level m + 1 over level m.
+pub fn level_step(
     targets: &[u32],
     rows: &mut [u32],
     words: &mut [u32],
@@ -146,30 +149,4 @@ fn level_step(
         first,
         level_back(targets, rows, words, n, x, m, j.more, below),
     )
-}
-
-// All levels of a node, upward or downward.
-pub fn levels_step(
-    targets: &[u32],
-    rows: &mut [u32],
-    words: &mut [u32],
-    n: usize,
-    x: Fixpoint,
-    down: bool,
-) -> Report
-    requires { ⌜ Fits n x (now rows) (now words) ⌝ }
-    requires { ⌜ (n ≤ 32) × (length (now targets) ≡ 32) ⌝ }
-    ensures { λ q. ⌜ stepped (now (rows .exit)) (now (words .exit)) q ≡ levelsFrom (now (targets .entry)) n x down n (memory (now (rows .entry)) (now (words .entry))) ⌝ }
-{
-    let mut report = Report {
-        changed: false,
-        fails: false,
-    };
-    let mut k = 0;
-    while k < n {
-        let m = if down { n - 1 - k } else { k };
-        report = both(report, level_step(targets, rows, words, n, x, m));
-        k += 1;
-    }
-    report
 }

@@ -4,8 +4,10 @@ mod bases;
 mod join;
 mod kept;
 mod level;
+mod levels;
 mod net;
 mod node;
+mod nodes;
 mod row;
 mod sweep;
 

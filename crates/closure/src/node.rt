@@ -1,8 +1,9 @@
 // The rules of a node, by its kind.
 use crate::ahead::ahead;
 use crate::ahead::go_back;
+use crate::join::Family;
 use crate::level::Fixpoint;
-use crate::level::levels_step;
+use crate::levels::levels_step;
 use crate::row::Report;
 use crate::row::Row;
 use crate::row::add;
@@ -137,6 +138,7 @@ pub fn node_step(
         7 => next_step(targets, rows, n, i, false, a),
         8 => {
             let x = Fixpoint {
+                family: Family::Release,
                 node: i,
                 a: a,
                 b: b,
@@ -147,6 +149,7 @@ pub fn node_step(
         }
         9 => {
             let x = Fixpoint {
+                family: Family::Release,
                 node: i,
                 a: a,
                 b: b,

@@ -2,9 +2,9 @@
 ghost use mathlib.Core.Path.{_≡_};
 ghost use Prim.Native.Nat.{_+_, _<_};
 ghost use lib.ListN.{length};
-ghost use Rattle.closure.specs.Row.{turned, only};
+ghost use Rattle.closure.specs.Row.{turned, only, sameRow};
 ghost use Rattle.closure.specs.Rules.{newOf, isNone};
-ghost use Rattle.closure.specs.Memory.{rowAt, joined, reportOf, bothReports};
+ghost use Rattle.closure.specs.Memory.{rowAt, joined, reportOf, bothReports, quiet};
 
 // The states where the variable is known true, and those where it is known false.
 pub struct Row {
@@ -38,6 +38,22 @@ pub fn both(a: Report, b: Report) -> Report
         changed: a.changed | b.changed,
         fails: a.fails | b.fails,
     }
+}
+
+// Whether nothing was added and nothing is known both ways.
+pub fn is_quiet(r: Report) -> bool
+    ensures { λ x. ⌜ x ≡ quiet r ⌝ }
+{
+    !(r.changed | r.fails)
+}
+
+pub fn is_same(r: Row, q: Row) -> bool
+    ensures { λ x. ⌜ x ≡ sameRow r q ⌝ }
+{
+    if r.yes != q.yes {
+        return false;
+    }
+    r.no == q.no
 }
 
 // What r knows that q does not.

@@ -7,7 +7,7 @@ use native.Mathlib.Omega.{arith}
 use borrow.Author.Needs.{needs}
 use lib.ListN.{length}
 use denote.Ref.{now}
-use Rattle.closure.specs.Sweep.{memory, stepped, eachBelow, keptStep}
+use Rattle.closure.specs.Sweep.{memory, stepped, eachBelow, eachWith, keptStep}
 use Rattle.closure.proofs.Chain.{after}
 use Rattle.closure.proofs.kept.kept_states.Statement.{statement}
 use Rattle.closure.proofs.kept.kept_states.Tie as tie
@@ -20,7 +20,7 @@ abbrev μ-loop : tie.MeasureT-loop
 μ-loop targets rows₀ n report₀ s₀ rows report s = n - s
 
 loop-holds : tie.Need-loop-holds Inv-loop μ-loop
-unfolding eachBelow
+unfolding eachBelow eachWith
 loop-holds c = (zero-le, c .before .before .pre .1 .1, λ w. refl)
 
 kept-step-requires : tie.Need-kept-step-requires Inv-loop μ-loop
@@ -36,7 +36,7 @@ loop-less : tie.Need-loop-less Inv-loop μ-loop
 loop-less c = omega arith
 
 loop-again : tie.Need-loop-again Inv-loop μ-loop
-unfolding eachBelow
+unfolding eachBelow eachWith
 loop-again c =
     let a = c .before .before .before .before .before .before .before .before .before .args in
     let l = c .before .before .before .before .before .before .loop in

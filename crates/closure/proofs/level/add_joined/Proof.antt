@@ -2,6 +2,7 @@
 use Prim.Native.Nat.{ℕ, suc}
 use mathlib.Core.Path.{_≡_, refl, ap, _∙_}
 use native.Mathlib.Numerals.{add-one}
+use native.Mathlib.Omega.{arith}
 use denote.Ref.{now}
 use Rattle.closure.specs.Memory.{nodePlace}
 use Rattle.closure.specs.Sweep.{memory, failing, addRow, addLevel}
@@ -32,13 +33,13 @@ both-requires-2 : tie.Need-both-requires-2
 both-requires-2 c κs = search needs
 
 mul-add-2 : tie.Need-mul-add-2
-mul-add-2 c = search needs
+mul-add-2 c = omega (arith, c .before .before .before .before .before .before .before .before .before .before .before .before .before .before .before .before .before .before .pre .0 .b-below)
 
 add-add-2 : tie.Need-add-add-2
-add-add-2 c = search needs
+add-add-2 c = omega (arith, c .before .before .before .before .before .before .before .before .before .before .before .before .before .before .before .before .before .before .pre .0 .b-below)
 
 add-requires-2 : tie.Need-add-requires-2
-add-requires-2 c κs = search needs
+add-requires-2 c κs = omega (arith, c .before .before .before .before .before .before .before .before .before .before .before .before .before .before .before .before .before .before .pre .0 .b-below, c .before .before .before .before .before .before .before .before .before .before .before .before .before .before .before .before .before .before .pre .0 .rows-size, c .before .before .before .before .before .before .before .before .before .before .before .before .before .add-level .kept .0, c .before .before .before .before .before .add .kept .0)
 
 both-requires-3 : tie.Need-both-requires-3
 both-requires-3 c κs = search needs

@@ -6,7 +6,7 @@ use native.Mathlib.Omega.{arith}
 use denote.Ref.{now}
 use lib.ListN.{getD}
 use Rattle.closure.specs.Row.{turned}
-use Rattle.closure.specs.Rules.{aheadRow, joinRelease}
+use Rattle.closure.specs.Rules.{aheadRow, joinOf}
 use Rattle.closure.specs.Memory.{rowAt, stepPlace}
 use Rattle.closure.specs.Sweep.{memory, aheadIn, levelAt}
 use borrow.Author.Needs.{needs}
@@ -46,8 +46,8 @@ add-row-at-2 c = omega (arith, c .before .before .before .before .before .before
 row-at-requires-2 : tie.Need-row-at-requires-2
 row-at-requires-2 c κs = omega (arith, c .before .before .before .before .before .before .before .before .before .before .pre .0 .b-below, c .before .before .before .before .before .before .before .before .before .before .pre .0 .rows-size)
 
-join-release-requires : tie.Need-join-release-requires
-join-release-requires c κs = search needs
+join-requires : tie.Need-join-requires
+join-requires c κs = search needs
 
 returns : tie.Need-returns
 returns c =
@@ -62,7 +62,7 @@ returns c =
     let up : u .result ≡ aheadIn (now (a .targets)) (a .n) (a .x .every) (a .below) M =
     u .ensures ∙ ap (turned (a .x .every)) (h .ensures ∙ ap (aheadRow (λ s. getD (now (a .targets)) s 0) (λ s. rowAt (now (a .rows)) (stepPlace s)) (a .n)) (t .ensures)) in
     let here : l .result ≡ levelAt (a .n) (a .x) (suc (a .m)) M = l .ensures ∙ ap (λ (k : ℕ). levelAt (a .n) (a .x) k M) (add-one (a .m)) in
-    c .join-release .ensures ∙ (λ i. joinRelease (here i) (p .ensures i) (q .ensures i) (up i))
+    c .join .ensures ∙ (λ i. joinOf (a .x .family) (here i) (p .ensures i) (q .ensures i) (up i))
 
 pub joined-at-spec : {M : Type 1} → statement M
 joined-at-spec =
@@ -79,5 +79,5 @@ joined-at-spec =
     mul-row-at-2
     add-row-at-2
     row-at-requires-2
-    join-release-requires
+    join-requires
     returns)

@@ -13,6 +13,7 @@ use Rattle.sets.proofs.SetOf.{setOf-unique, setOf-lt, member-setOf, empty}
 use Rattle.table.specs.StateSets.{labelledWord}
 use Rattle.ctl.specs.Rule.{Operator}
 use Rattle.ctl.proofs.OfKind.{of-kind, no-kind}
+use Rattle.closure.specs.declared.join.Family.the-variants.{Release}
 use Rattle.closure.specs.Rules.{constantRow}
 use Rattle.closure.specs.Memory.{nodePlace}
 use Rattle.closure.specs.Sweep.{memory, levelsFrom, nodeStep}
@@ -188,7 +189,7 @@ returns-8 : tie.Need-returns-8
 unfolding nodeStep
 returns-8 c =
     let a = c .before .before .before .before .before .before .before .before .before .before .before .before .args in
-    λ bases e. c .before .before .before .before .levels-step .ensures ∙ ap (λ (k : ℕ). levelsFrom (now (a .targets)) (a .n) (record { node = a .i; a = a .x .a; b = a .x .b; every = true; base = k }) (a .down) (a .n) (memory (now (a .rows)) (now (a .words)))) (sym e) ∙ sym (ap (λ (o : Operator). nodeStep (now (a .table)) (now (a .targets)) bases (a .n) (a .down) (a .i) o (memory (now (a .rows)) (now (a .words)))) (of-kind (a .x) 8 (c .before .before .before .before .before .before .before .match .keys8)))
+    λ bases e. c .before .before .before .before .levels-step .ensures ∙ ap (λ (k : ℕ). levelsFrom (now (a .targets)) (a .n) (record { family = Release; node = a .i; a = a .x .a; b = a .x .b; every = true; base = k }) (a .down) (a .n) (memory (now (a .rows)) (now (a .words))) .done) (sym e) ∙ sym (ap (λ (o : Operator). nodeStep (now (a .table)) (now (a .targets)) bases (a .n) (a .down) (a .i) o (memory (now (a .rows)) (now (a .words)))) (of-kind (a .x) 8 (c .before .before .before .before .before .before .before .match .keys8)))
 
 same-length-10 : tie.Need-same-length-10
 same-length-10 c = search needs
@@ -200,7 +201,7 @@ returns-9 : tie.Need-returns-9
 unfolding nodeStep
 returns-9 c =
     let a = c .before .before .before .before .before .before .before .before .before .before .before .before .args in
-    λ bases e. c .before .before .before .before .levels-step2 .ensures ∙ ap (λ (k : ℕ). levelsFrom (now (a .targets)) (a .n) (record { node = a .i; a = a .x .a; b = a .x .b; every = false; base = k }) (a .down) (a .n) (memory (now (a .rows)) (now (a .words)))) (sym e) ∙ sym (ap (λ (o : Operator). nodeStep (now (a .table)) (now (a .targets)) bases (a .n) (a .down) (a .i) o (memory (now (a .rows)) (now (a .words)))) (of-kind (a .x) 9 (c .before .before .before .before .before .before .before .match .keys9)))
+    λ bases e. c .before .before .before .before .levels-step2 .ensures ∙ ap (λ (k : ℕ). levelsFrom (now (a .targets)) (a .n) (record { family = Release; node = a .i; a = a .x .a; b = a .x .b; every = false; base = k }) (a .down) (a .n) (memory (now (a .rows)) (now (a .words))) .done) (sym e) ∙ sym (ap (λ (o : Operator). nodeStep (now (a .table)) (now (a .targets)) bases (a .n) (a .down) (a .i) o (memory (now (a .rows)) (now (a .words)))) (of-kind (a .x) 9 (c .before .before .before .before .before .before .before .match .keys9)))
 
 same-length-12 : tie.Need-same-length-12
 same-length-12 c = search needs

@@ -9,44 +9,53 @@ use lib.ListN.{length}
 use denote.Ref.{now}
 use Rattle.table.specs.Table.{tableOf}
 use Rattle.closure.specs.declared.net.Net.{Net}
-use Rattle.closure.specs.declared.row.Report.{Report}
-use Rattle.closure.specs.Memory.{Sized, total}
+use Rattle.closure.specs.declared.nodes.Visited.{Visited}
+use Rattle.closure.specs.Memory.{Sized, knowledge, total}
 use Rattle.closure.specs.Rest.{Rest}
 use Rattle.closure.specs.Advance.{Advance}
 use Rattle.closure.specs.Setting.{Setting}
 use Rattle.closure.specs.Sweep.{Stepped, memory, stepped, sweep}
 use Rattle.closure.proofs.SettingFacts.{wellformed}
+use Rattle.closure.proofs.NodeAdvance.{Resting, none-rest}
 use Rattle.closure.proofs.SweepAdvance.{sweep-advance}
 use Rattle.closure.proofs.Closing.{Reached, reached-first, reached-more, closed-failing, closed-resting, total-bound}
 use Rattle.closure.proofs.sweep.close.Statement.{statement}
 use Rattle.closure.proofs.sweep.close.Tie as tie
 
--- what a sweep of the code did is an advance
-advanced : {table : List ℕ} {net : Net} {targets bases : List ℕ} (g : Setting table net targets bases) (down : Bool) (rows words : List ℕ)
-    → Sized (tableOf table) (memory rows words) → (rows′ words′ : List ℕ) (r : Report)
-    → stepped rows′ words′ r ≡ sweep table net targets bases down (memory rows words)
-    → Advance (tableOf table) (Rest (tableOf table)) (memory rows words) (memory rows′ words′) r
-advanced {table} {net} {targets} {bases} g down rows words z rows′ words′ r e =
-    subst (λ (s : Stepped). Advance (tableOf table) (Rest (tableOf table)) (memory rows words) (s .memory) (s .report)) (sym e)
-    (sweep-advance table net targets bases g down (memory rows words) z)
+module _ {table : List ℕ} {net : Net} {targets bases : List ℕ} (g : Setting table net targets bases) (down : Bool) (resting : ℕ) (rows words : List ℕ)
+    (z : Sized (tableOf table) (memory rows words)) (rest : Resting (tableOf table) resting (knowledge (tableOf table) (memory rows words)))
+    (rows′ words′ : List ℕ) (v : Visited) (e : stepped rows′ words′ (v .report) ≡ sweep table net targets bases down resting (memory rows words) .done) where
+  -- what a sweep of the code did is an advance
+  advanced : Advance (tableOf table) (Rest (tableOf table)) (memory rows words) (memory rows′ words′) (v .report)
+  advanced = subst (λ (s : Stepped). Advance (tableOf table) (Rest (tableOf table)) (memory rows words) (s .memory) (s .report)) (sym e)
+      (sweep-advance table net targets bases g down resting (memory rows words) z rest .0)
+
+  -- the nodes that it leaves at rest are
+  still-resting : v .resting ≡ sweep table net targets bases down resting (memory rows words) .left
+      → Resting (tableOf table) (v .resting) (knowledge (tableOf table) (memory rows′ words′))
+  still-resting f = subst (λ (s : Stepped). Resting (tableOf table) (v .resting) (knowledge (tableOf table) (s .memory))) (sym e)
+      (subst (λ (r : ℕ). Resting (tableOf table) r (knowledge (tableOf table) (sweep table net targets bases down resting (memory rows words) .done .memory))) (sym f)
+      (sweep-advance table net targets bases g down resting (memory rows words) z rest .1))
 
 abbrev Inv-loop : tie.InvT-loop
-Inv-loop table net targets bases rows₀ words₀ down₀ rows words down = Reached (tableOf table) (memory rows₀ words₀) (memory rows words)
+Inv-loop table net targets bases rows₀ words₀ down₀ resting₀ rows words down resting =
+    Reached (tableOf table) (memory rows₀ words₀) (memory rows words) × Resting (tableOf table) resting (knowledge (tableOf table) (memory rows words))
 
 abbrev μ-loop : tie.MeasureT-loop
-μ-loop table net targets bases rows₀ words₀ down₀ rows words down = (length rows₀ + length words₀) * 2 ^ 32 - total (memory rows words)
+μ-loop table net targets bases rows₀ words₀ down₀ resting₀ rows words down resting = (length rows₀ + length words₀) * 2 ^ 32 - total (memory rows words)
 
 loop-holds : tie.Need-loop-holds Inv-loop μ-loop
-loop-holds c = reached-first (tableOf (now (c .before .before .before .before .before .args .table))) _ (c .before .before .before .before .before .pre .1)
+loop-holds c =
+    let T = tableOf (now (c .before .before .before .before .before .args .table)) in (reached-first T _ (c .before .before .before .before .before .pre .1), none-rest T _)
 
 sweep-once-requires : tie.Need-sweep-once-requires Inv-loop μ-loop
-sweep-once-requires c κs = (c .before .before .before .before .before .before .before .before .pre .0, c .before .before .loop .inv .sized)
+sweep-once-requires c κs = (c .before .before .before .before .before .before .before .before .pre .0, c .before .before .loop .inv .0 .sized)
 
 same-length : tie.Need-same-length Inv-loop μ-loop
-same-length c = c .before .before .before .before .before .sweep-once .kept .1 .1 .1 .1 .0 ∙ c .before .before .before .before .before .before .before .before .loop .inv .sized .rows-size ∙ sym (c .before .before .before .before .before .before .before .before .before .before .before .before .before .before .pre .1 .rows-size)
+same-length c = c .before .before .before .before .before .sweep-once .kept .1 .1 .1 .1 .0 ∙ c .before .before .before .before .before .before .before .before .loop .inv .0 .sized .rows-size ∙ sym (c .before .before .before .before .before .before .before .before .before .before .before .before .before .before .pre .1 .rows-size)
 
 same-length-2 : tie.Need-same-length-2 Inv-loop μ-loop
-same-length-2 c = c .before .before .before .before .before .sweep-once .kept .1 .1 .1 .1 .1 .0 ∙ c .before .before .before .before .before .before .before .before .loop .inv .same-words-length
+same-length-2 c = c .before .before .before .before .before .sweep-once .kept .1 .1 .1 .1 .1 .0 ∙ c .before .before .before .before .before .before .before .before .loop .inv .0 .same-words-length
 
 returns : tie.Need-returns Inv-loop μ-loop
 returns c =
@@ -55,13 +64,14 @@ returns c =
     let l = c .before .before .before .before .before .before .before .before .loop in
     let s = c .before .before .before .before .before .sweep-once in
     let T = tableOf (now (a .table)) in
-    let went = advanced p.0 (l .down) (l .rows) (l .words) (l .inv .sized) _ _ (s .result) (s .ensures) in closed-failing T (l .inv) went (c .if1 .taken)
+    let went = advanced p.0 (l .down) (l .resting) (l .rows) (l .words) (l .inv .0 .sized) (l .inv .1) _ _ (s .result) (s .ensures .0) in
+    closed-failing T (l .inv .0) went (c .if1 .taken)
 
 same-length-3 : tie.Need-same-length-3 Inv-loop μ-loop
-same-length-3 c = c .before .before .before .before .before .before .before .sweep-once .kept .1 .1 .1 .1 .0 ∙ c .before .before .before .before .before .before .before .before .before .before .loop .inv .sized .rows-size ∙ sym (c .before .before .before .before .before .before .before .before .before .before .before .before .before .before .before .before .pre .1 .rows-size)
+same-length-3 c = c .before .before .before .before .before .before .before .sweep-once .kept .1 .1 .1 .1 .0 ∙ c .before .before .before .before .before .before .before .before .before .before .loop .inv .0 .sized .rows-size ∙ sym (c .before .before .before .before .before .before .before .before .before .before .before .before .before .before .before .before .pre .1 .rows-size)
 
 same-length-4 : tie.Need-same-length-4 Inv-loop μ-loop
-same-length-4 c = c .before .before .before .before .before .before .before .sweep-once .kept .1 .1 .1 .1 .1 .0 ∙ c .before .before .before .before .before .before .before .before .before .before .loop .inv .same-words-length
+same-length-4 c = c .before .before .before .before .before .before .before .sweep-once .kept .1 .1 .1 .1 .1 .0 ∙ c .before .before .before .before .before .before .before .before .before .before .loop .inv .0 .same-words-length
 
 returns-2 : tie.Need-returns-2 Inv-loop μ-loop
 returns-2 c =
@@ -70,8 +80,8 @@ returns-2 c =
     let l = c .before .before .before .before .before .before .before .before .before .before .loop in
     let s = c .before .before .before .before .before .before .before .sweep-once in
     let T = tableOf (now (a .table)) in
-    let went = advanced p.0 (l .down) (l .rows) (l .words) (l .inv .sized) _ _ (s .result) (s .ensures) in
-    closed-resting T (wellformed (p .0)) (l .inv) went (c .before .before .if1 .left) (not-true _ (c .if2 .taken))
+    let went = advanced p.0 (l .down) (l .resting) (l .rows) (l .words) (l .inv .0 .sized) (l .inv .1) _ _ (s .result) (s .ensures .0) in
+    closed-resting T (wellformed (p .0)) (l .inv .0) went (c .before .before .if1 .left) (not-true _ (c .if2 .taken))
 
 loop-less : tie.Need-loop-less Inv-loop μ-loop
 loop-less c =
@@ -80,11 +90,11 @@ loop-less c =
     let l = c .before .before .before .before .before .before .before .before .before .before .loop in
     let s = c .before .before .before .before .before .before .before .sweep-once in
     let T = tableOf (now (a .table)) in
-    let went = advanced p.0 (l .down) (l .rows) (l .words) (l .inv .sized) _ _ (s .result) (s .ensures) in
+    let went = advanced p.0 (l .down) (l .resting) (l .rows) (l .words) (l .inv .0 .sized) (l .inv .1) _ _ (s .result) (s .ensures .0) in
     let less : total (memory (l .rows) (l .words)) < total (memory (s .last .1 .1 .1 .1 .0) (s .last .1 .1 .1 .1 .1 .0)) = went .more (not-false _ (c .if2 .left)) in
     let most = total-bound {T = T} (memory (s .last .1 .1 .1 .1 .0) (s .last .1 .1 .1 .1 .1 .0)) (went .sized) in
     let size : length (s .last .1 .1 .1 .1 .0) + length (s .last .1 .1 .1 .1 .1 .0) ≡ length (now (a .rows)) + length (now (a .words)) =
-    omega (arith, went .sized .rows-size, p .1 .rows-size, s .kept .1 .1 .1 .1 .1 .0, l .inv .same-words-length) in
+    omega (arith, went .sized .rows-size, p .1 .rows-size, s .kept .1 .1 .1 .1 .1 .0, l .inv .0 .same-words-length) in
     let fixed = ap (λ (k : ℕ). k * 2 ^ 32) size in
     omega (arith, less, most, fixed)
 
@@ -95,7 +105,8 @@ loop-again c =
     let l = c .before .before .before .before .before .before .before .before .before .before .loop in
     let s = c .before .before .before .before .before .before .before .sweep-once in
     let T = tableOf (now (a .table)) in
-    let went = advanced p.0 (l .down) (l .rows) (l .words) (l .inv .sized) _ _ (s .result) (s .ensures) in reached-more T (l .inv) went
+    let went = advanced p.0 (l .down) (l .resting) (l .rows) (l .words) (l .inv .0 .sized) (l .inv .1) _ _ (s .result) (s .ensures .0) in
+    (reached-more T (l .inv .0) went, still-resting p.0 (l .down) (l .resting) (l .rows) (l .words) (l .inv .0 .sized) (l .inv .1) _ _ (s .result) (s .ensures .0) (s .ensures .1))
 
 pub close-spec : {M : Type 1} → statement M
 close-spec =

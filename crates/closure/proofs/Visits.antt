@@ -1,0 +1,52 @@
+-- Looking at a level or a node: passed over where it is like the one seen last, or at rest; else its rule is applied.
+use Prim.Native.Nat.{ℕ, suc}
+use mathlib.Core.Path.{_≡_, ap}
+use mathlib.Core.Bool.{Bool, true, false, cond}
+use mathlib.Core.List.{List}
+use borrow.Author.Tests.{eqb-true}
+use lib.Dec.{eqb}
+use Rattle.sets.specs.Member.{member}
+use Rattle.table.proofs.Bools.{and-parts}
+use Rattle.closure.specs.declared.row.Row.{Row}
+use Rattle.closure.specs.declared.net.Net.{Net}
+use Rattle.closure.specs.declared.level.Fixpoint.{Fixpoint}
+use Rattle.closure.specs.declared.levels.Seen.{Seen}
+use Rattle.closure.specs.Row.{sameRow}
+use Rattle.closure.specs.Memory.{Memory}
+use Rattle.closure.specs.Sweep.{passed, levelAt, alike, levelLook, levelVisit, nodeLook, nodeVisit}
+
+same-row : (r q : Row) → sameRow r q ≡ true → r ≡ q
+same-row r q e =
+    let p = and-parts (eqb (r .yes) (q .yes)) (eqb (r .no) (q .no)) e in
+    λ i. record { yes = eqb-true (r .yes) (q .yes) (p .0) i; no = eqb-true (r .no) (q .no) (p .1) i }
+
+-- the one seen last was quiet, and the rows are its rows
+pub alike-parts : (v : Seen) (level below : Row) → alike v level below ≡ true → (v .quiet ≡ true) × (v .level ≡ level) × (v .below ≡ below)
+alike-parts v level below e =
+    let p = and-parts (v .quiet) _ e in
+    let s = and-parts (sameRow (v .level) level) (sameRow (v .below) below) (p .1) in
+    (p .0, same-row (v .level) level (s .0), same-row (v .below) below (s .1))
+
+module _ (targets : List ℕ) (n : ℕ) (x : Fixpoint) (m : ℕ) (v : Seen) (M : Memory) where
+  visit-so : (b : Bool) → alike v (levelAt n x (suc m) M) (levelAt n x m M) ≡ b
+      → levelVisit targets n x m v M ≡ cond b (passed v M) (levelLook targets n x m M)
+  unfolding levelVisit
+  visit-so b e = ap (λ (b : Bool). cond b (passed v M) (levelLook targets n x m M)) e
+
+  pub visit-alike : alike v (levelAt n x (suc m) M) (levelAt n x m M) ≡ true → levelVisit targets n x m v M ≡ passed v M
+  visit-alike = visit-so true
+
+  pub visit-other : alike v (levelAt n x (suc m) M) (levelAt n x m M) ≡ false → levelVisit targets n x m v M ≡ levelLook targets n x m M
+  visit-other = visit-so false
+
+module _ (table : List ℕ) (net : Net) (targets bases : List ℕ) (down : Bool) (i resting : ℕ) (M : Memory) where
+  visit-where : (b : Bool) → member resting i ≡ b
+      → nodeVisit table net targets bases down i resting M ≡ cond b (passed resting M) (nodeLook table net targets bases down i resting M)
+  unfolding nodeVisit
+  visit-where b e = ap (λ (b : Bool). cond b (passed resting M) (nodeLook table net targets bases down i resting M)) e
+
+  pub visit-resting : member resting i ≡ true → nodeVisit table net targets bases down i resting M ≡ passed resting M
+  visit-resting = visit-where true
+
+  pub visit-node : member resting i ≡ false → nodeVisit table net targets bases down i resting M ≡ nodeLook table net targets bases down i resting M
+  visit-node = visit-where false
