@@ -7,9 +7,10 @@ use mathlib.Core.List.{List, List·Memᴰ}
 use lib.ListN.{length, length-set}
 use Rattle.circuit.specs.Logic.{Literal, opposite}
 use Rattle.closure.specs.Closure.{Forced, given, unit, Fails, Marks, known, markAt, Progress, clash, marked, closure, marksOf}
+use Rattle.closure.specs.Given.{Given, Within, Inside, Consistent}
 use Rattle.closure.proofs.Forced.{forced-least}
 use Rattle.closure.proofs.Marks.{Holds, holds-once, holding-only, holding-keeps, unknowns, unknowns-le}
-use Rattle.closure.proofs.Given.{Given, Within, Inside, Consistent, given-length, given-only, given-held}
+use Rattle.closure.proofs.Given.{given-length, given-only, given-held}
 use Rattle.closure.proofs.Clause.{Against}
 use Rattle.closure.proofs.Rounds.{Reached, Step, rounds-reached}
 use Rattle.closure.proofs.Rest.{Rest, rounds-rest}

@@ -1,5 +1,5 @@
 -- Given literals of variables below a size, no two of which contradict each other: their marks hold them and no other literal.
-use Prim.Native.Nat.{ℕ, zero, suc, _<_}
+use Prim.Native.Nat.{ℕ, zero, suc}
 use native.Mathlib.Decide.{ℕ-discrete}
 use mathlib.Core.Path.{_≡_, refl, sym, subst, _∙_}
 use mathlib.Core.Logic.{_⊎_, inl, inr, ⊎-elim}
@@ -8,24 +8,9 @@ use lib.ListN.{length, replicate, length-set, length-replicate}
 use lib.Seq.{getD-set-other}
 use Rattle.circuit.specs.Logic.{Literal, opposite}
 use Rattle.closure.specs.Closure.{Marks, unknown, known, markAt, holding, marksOf}
+use Rattle.closure.specs.Given.{Within, Consistent}
 use Rattle.closure.proofs.Forced.{one-of-both}
 use Rattle.closure.proofs.Marks.{Holds, literal-path, holds-known, holding-has, holding-only}
-
--- the literals of a list
-abbrev pub Given : List (Literal ℕ) → Literal ℕ → Type 0
-Given P l = List·Memᴰ l P
-
--- the literals are of variables below size
-abbrev pub Within : ℕ → List (Literal ℕ) → Type 0
-Within size P = (l : Literal ℕ) → List·Memᴰ l P → l .var < size
-
--- the literals of each clause are of variables below size
-abbrev pub Inside : ℕ → List (List (Literal ℕ)) → Type 0
-Inside size F = (C : List (Literal ℕ)) → List·Memᴰ C F → Within size C
-
--- no two of the literals contradict each other
-abbrev pub Consistent : List (Literal ℕ) → Type 0
-Consistent P = (l : Literal ℕ) → List·Memᴰ l P → ¬ List·Memᴰ (opposite l) P
 
 -- literals below size stay so with the first dropped
 pub within-tail : {size : ℕ} {x : Literal ℕ} {P : List (Literal ℕ)} → Within size (x ∷ P) → Within size P

@@ -6,9 +6,9 @@ use mathlib.Core.Logic.{_⊎_, inl, inr}
 use mathlib.Core.List.{List, _∷_, List·Memᴰ, List·Memᴰ·head, List·Memᴰ·tail, List·Memᴰ·cases-cons}
 use Rattle.circuit.specs.Logic.{Literal, opposite}
 use Rattle.closure.specs.Closure.{given, Marks, unknown, known, markAt, marked, closure}
+use Rattle.closure.specs.Given.{Within, Inside, Consistent}
 use Rattle.closure.proofs.Forced.{not-both, forced-monotone}
 use Rattle.closure.proofs.Marks.{holds-known}
-use Rattle.closure.proofs.Given.{Within, Inside, Consistent}
 use Rattle.closure.proofs.Computed.{held-forced, forced-held}
 
 -- what the closure holds stays held with one literal more

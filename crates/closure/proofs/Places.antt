@@ -21,7 +21,7 @@ use Rattle.circuit.proofs.Outputs.{outputs, variables-outputs}
 use Rattle.circuit.proofs.Distinct.{variables-no-repeat, step-first}
 use Rattle.circuit.proofs.Covered.{clause-variables, clause-literal}
 use Rattle.closure.specs.Numbered.{code, sameCode, place, numberedLiteral, numberedClauses}
-use Rattle.closure.proofs.Given.{Within, Inside}
+use Rattle.closure.specs.Given.{Within, Inside}
 use Rattle.ctl.specs.Levels.{below}
 
 -- ---- the code of a variable

@@ -8,9 +8,9 @@ use mathlib.Core.List.{List, [], _∷_, List·Memᴰ, List·Memᴰ·not-nil, Lis
 use lib.ListN.{length, length-set}
 use Rattle.circuit.specs.Logic.{Literal}
 use Rattle.closure.specs.Closure.{Marks, known, holding, open-in, Progress, clash, marked, take-clause, round, rounds}
+use Rattle.closure.specs.Given.{Inside}
 use Rattle.closure.proofs.Forced.{Closed}
 use Rattle.closure.proofs.Marks.{Holds, unknowns, unknowns-fall}
-use Rattle.closure.proofs.Given.{Inside}
 use Rattle.closure.proofs.Clause.{Taken, all-against, one-left, at-rest, taken}
 use Rattle.closure.proofs.Rounds.{Reached, Step, round-reached}
 

@@ -1,4 +1,5 @@
 pub mod Closure
+pub mod Given
 pub mod Numbered
 pub mod Row
 pub mod Memory

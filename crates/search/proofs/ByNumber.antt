@@ -19,8 +19,8 @@ use Rattle.closure.specs.Closure.{Forced, given, unit, Fails}
 use Rattle.closure.specs.Numbered.{numberedLiteral, numberedClauses}
 use Rattle.closure.specs.Inside.{literal}
 use Rattle.closure.specs.Advance.{ForcedBy}
+use Rattle.closure.specs.Given.{Given, Within}
 use Rattle.closure.proofs.Forced.{forced-least}
-use Rattle.closure.proofs.Given.{Given, Within}
 use Rattle.closure.proofs.Places.{place-step, place-injective, steps-fit}
 use Rattle.search.specs.Stands.{stepLiterals}
 

@@ -14,7 +14,7 @@ use Rattle.closure.specs.Closure.{Marks, markAt, known, Progress, clash, marked
 use Rattle.closure.specs.Numbered.{numberedClauses}
 use Rattle.closure.specs.Memory.{Memory}
 use Rattle.closure.specs.Closes.{stepKnown, Closes}
-use Rattle.closure.proofs.Given.{Within}
+use Rattle.closure.specs.Given.{Within}
 use Rattle.closure.proofs.Computed.{closure-fails, closure-holds}
 use Rattle.closure.proofs.Places.{steps-fit, numbered-inside}
 use Rattle.search.specs.Stands.{Fine, closureOf, stepLiterals}

@@ -11,7 +11,7 @@ use Rattle.circuit.specs.Logic.{Literal}
 use Rattle.circuit.specs.Variables.{variableCount}
 use Rattle.closure.specs.Closure.{closure}
 use Rattle.closure.specs.Numbered.{numberedClauses}
-use Rattle.closure.proofs.Given.{Within, Inside}
+use Rattle.closure.specs.Given.{Within, Inside}
 use Rattle.closure.proofs.Computed.{held-forced, clash-fails}
 use Rattle.closure.proofs.Grow.{closure-grows, closure-keeps, consistent-more, within-more}
 use Rattle.search.specs.Stands.{Fine}

@@ -15,8 +15,8 @@ use Rattle.circuit.proofs.Distinct.{step-first}
 use Rattle.circuit.proofs.Models.{repair-is-model}
 use Rattle.closure.specs.Closure.{Forced, Fails}
 use Rattle.closure.specs.Numbered.{numberedClauses}
+use Rattle.closure.specs.Given.{Given, Within}
 use Rattle.closure.proofs.Forced.{forced-sound, fails-no-model}
-use Rattle.closure.proofs.Given.{Given, Within}
 use Rattle.search.proofs.Agree.{AgreesAll}
 use Rattle.closure.proofs.Models.{onNumbers, model-numbered}
 

@@ -18,10 +18,10 @@ use Rattle.circuit.proofs.Settled.{variables-settled}
 use Rattle.circuit.proofs.Models.{Agrees, model-is-repair}
 use Rattle.closure.specs.Closure.{Forced, Mark, Marks, unknown, known, markAt, isKnown, marked, closure}
 use Rattle.closure.specs.Numbered.{place, numberedLiteral, numberedClauses}
+use Rattle.closure.specs.Given.{Given, Within, Consistent}
 use Rattle.search.specs.TableSearch.{bitOf, bytesOf}
 use Rattle.closure.proofs.Forced.{Occurs, settled-models}
 use Rattle.closure.proofs.Marks.{Holds, literal-path, holds-once}
-use Rattle.closure.proofs.Given.{Given, Within, Consistent}
 use Rattle.closure.proofs.Computed.{held-forced, forced-held}
 use Rattle.search.proofs.Agree.{length-bytesOf, getD-bytesOf}
 use Rattle.closure.proofs.Places.{place-step, numbered-inside, numbered-nonempty}

@@ -15,7 +15,7 @@ use Rattle.circuit.specs.Variables.{variableCount}
 use Rattle.closure.specs.Closure.{Marks, Progress, clash, marked}
 use Rattle.closure.specs.Memory.{Memory}
 use Rattle.closure.specs.Numbered.{numberedClauses}
-use Rattle.closure.proofs.Given.{Within}
+use Rattle.closure.specs.Given.{Within}
 use Rattle.closure.proofs.Grow.{closure-keeps}
 use Rattle.closure.proofs.Places.{steps-fit, numbered-inside}
 use Rattle.search.specs.declared.choices.Choices.{Choices}

@@ -16,7 +16,7 @@ use Rattle.closure.specs.Memory.{Memory, Sized, levelTotal}
 use Rattle.closure.specs.Inside.{literal}
 use Rattle.closure.specs.Closes.{stepKnown, Between}
 use Rattle.closure.specs.Setting.{Setting}
-use Rattle.closure.proofs.Given.{Within, Consistent}
+use Rattle.closure.specs.Given.{Within, Consistent}
 use Rattle.search.specs.declared.outcome.Outcome.{Outcome as Answer}
 use Rattle.search.specs.declared.reach.Reached.{Reached}
 use Rattle.search.specs.declared.reach.Reached.the-variants.{Ended, Unsettled}
