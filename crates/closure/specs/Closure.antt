@@ -6,6 +6,7 @@ use mathlib.Core.List.{List, [], _∷_, List·Memᴰ}
 use lib.ListN.{getD, set, replicate}
 use lib.Dec.{eqb}
 use Rattle.table.specs.Accept.{all}
+use Rattle.ctl.specs.Labels.{nonempty}
 use Rattle.circuit.specs.Logic.{Literal, opposite}
 
 -- The smallest set holding P in which, if all of a clause's literals that differ from one of them are contradicted, that one is in.
@@ -64,10 +65,6 @@ pub data Progress : Type 0 where
 -- one clause: a clash where all its literals are contradicted, a mark where one literal alone is left
 unfoldable pub take-clause : List (Literal ℕ) → List (Literal ℕ) → Marks → Bool → Progress
 take-clause C [] m new = cond (nonempty C) clash (marked m new)
-  where
-    nonempty : List (Literal ℕ) → Bool
-    nonempty [] = false
-    nonempty (l ∷ ls) = true
 take-clause C (l ∷ ls) m new =
     cond (all (sameLiteral l) ls && not (isKnown (markAt m (l .var)))) (marked (holding m l) true) (marked m new)
 

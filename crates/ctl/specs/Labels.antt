@@ -25,9 +25,9 @@ endsFrom (x ∷ xs) s = cond (eqb (x .from) s) (x .to ∷ endsFrom xs s) (endsFr
 abbrev pub targets : Table → List ℕ → ℕ → List ℕ
 targets T list s = endsFrom (keptSteps (T .steps) list) s
 
-abbrev pub nonempty : List ℕ → Bool
+abbrev pub nonempty : {A : Type 0} → List A → Bool
 nonempty [] = false
-nonempty (t ∷ ts) = true
+nonempty (x ∷ xs) = true
 
 abbrev pub isKept : Table → List ℕ → ℕ → Bool
 isKept T list s = nonempty (targets T list s)
