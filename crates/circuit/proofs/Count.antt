@@ -9,12 +9,12 @@ use lib.Dec.{eqb, eqb·suc-suc, eqb·zero-suc, eqb·suc-zero}
 use lib.ListN.{length, getD, length-append, length-map}
 use Rattle.table.specs.declared.record.Node.{Node}
 use Rattle.table.specs.declared.record.Step.{Step}
-use Rattle.table.specs.Table.{Table, nodeAt}
+use Rattle.table.specs.Table.{Table, zeroStep, zeroNode, nodeAt}
 use Rattle.table.specs.Facts.{Wellformed}
 use Rattle.ctl.specs.Rule.{Operator, constant, atom, negation, conjunction, disjunction, next, release, operatorOf}
 use Rattle.ctl.specs.Levels.{tabulate, below}
 use Rattle.ctl.proofs.Tabulate.{length-tabulate}
-use Rattle.ctl.proofs.BottomUp.{zeroNode, Below, children-below}
+use Rattle.ctl.proofs.BottomUp.{Below, children-below}
 use Rattle.circuit.specs.Variables.{Var, step, kept, node, edge, level, concat, outOf, stepsOut, nodeVariables, variables, variableCount, costOf, costs, variableFormula}
 
 -- ---- sums
@@ -73,7 +73,7 @@ out-size j x xs s = go (eqb (x .from) s)
     go false = omega arith
 
 -- so their sizes over the states add up to the number of steps
-out-sizes : (n j : ℕ) (xs : List Step) → ((k : ℕ) → k < length xs → getD xs k (record { from = 0; to = 0 }) .from < n)
+out-sizes : (n j : ℕ) (xs : List Step) → ((k : ℕ) → k < length xs → getD xs k zeroStep .from < n)
     → sum n (λ s. length (outOf j xs s)) ≡ length xs
 unfolding outOf
 out-sizes n j [] inside = sum-constant n 0 ∙ mul-zero n

@@ -9,7 +9,7 @@ use borrow.Author.Tests.{eqb-true, eq-eqb}
 use lib.Dec.{eqb}
 use lib.ListN.{length, getD}
 use Rattle.table.specs.declared.record.Step.{Step}
-use Rattle.table.specs.Table.{Table, stepAt}
+use Rattle.table.specs.Table.{Table, zeroStep, stepAt}
 use Rattle.circuit.specs.Variables.{concat, outOf, stepsOut}
 use Rattle.ctl.specs.Levels.{below}
 use Rattle.ctl.proofs.Select.{in-cond, in-below}
@@ -68,10 +68,6 @@ module _ {A : Type 0} (n : ℕ) (f : ℕ → List A) where
   in-over k h m = in-concat (map f (below n)) m (Memᴰ·map f (in-below n k .1 h))
 
 -- ---- the steps out of a state
-
--- the step past the end of the steps
-abbrev pub zeroStep : Step
-zeroStep = record { from = 0; to = 0 }
 
 -- the numbers of the steps out of s, counted from j on: each is that of a step that leaves s
 pub out-place : (j : ℕ) (xs : List Step) (s k : ℕ) → List·Memᴰ k (outOf j xs s)

@@ -10,7 +10,7 @@ use borrow.Author.Tests.{eqb-true, eq-eqb}
 use lib.Dec.{eqb}
 use lib.ListN.{length, getD}
 use Rattle.table.specs.declared.record.Step.{Step}
-use Rattle.table.specs.Table.{Table, stepAt}
+use Rattle.table.specs.Table.{Table, zeroStep, stepAt}
 use Rattle.table.specs.Accept.{all as allOf}
 use Rattle.table.specs.Facts.{Wellformed}
 use Rattle.ctl.specs.Rule.{Quantifier, every, some, Operator, constant, atom, negation, conjunction, disjunction, next, release}
@@ -23,7 +23,7 @@ use Rattle.ctl.proofs.BottomUp.{OfChildren, node-induction}
 use Rattle.ctl.proofs.Targets.{targets-sound, targets-complete, is-kept, next-inside}
 use Rattle.ctl.proofs.Meaning.{label-of}
 use Rattle.circuit.specs.Variables.{outOf, stepsOut}
-use Rattle.circuit.proofs.Lists.{zeroStep, in-out}
+use Rattle.circuit.proofs.Lists.{in-out}
 use Rattle.circuit.proofs.Quantified.{quantified, join, quantified-more, quantified-none, quantified-same}
 use Rattle.circuit.proofs.Evaluate.{edgeValue, keeps, keptValue, aheadValue, levelValue, valuesOf, nodeValue, node-value}
 

@@ -10,17 +10,13 @@ use borrow.Author.Tests.{eqb-true, eq-eqb}
 use lib.Dec.{eqb}
 use lib.ListN.{length, getD}
 use Rattle.table.specs.declared.record.Step.{Step}
-use Rattle.table.specs.Table.{Table, stepAt}
+use Rattle.table.specs.Table.{Table, zeroStep, stepAt}
 use Rattle.table.specs.Facts.{Wellformed}
 use Rattle.ctl.specs.Kept.{Next, Kept}
 use Rattle.ctl.specs.Labels.{keptSteps, endsFrom, targets, nonempty, isKept}
 use Rattle.ctl.proofs.Select.{in-cond}
 
 -- ---- the kept steps
-
--- the step past the end of the steps
-abbrev zeroStep : Step
-zeroStep = record { from = 0; to = 0 }
 
 -- a kept step stands among the steps, at a place that the list keeps
 kept-place : (xs : List Step) (bits : List ℕ) {x : Step} → List·Memᴰ x (keptSteps xs bits)

@@ -14,7 +14,7 @@ use Rattle.table.specs.declared.record.Step.{Step}
 use Rattle.table.specs.declared.refusal.Refusal.the-variants.{Length}
 use Rattle.table.specs.declared.refusal.Verdict.the-variants.{Accepted}
 use Rattle.table.specs.Verdict.{require}
-use Rattle.table.specs.Table.{Table, tableOf, countsOf, packedLength, headerWidth, stateWidth, stepWidth, nodeWidth, statesPart, stepsPart, nodesPart, stateOf, stepOf, nodeOf, stateAt, stepAt, nodeAt}
+use Rattle.table.specs.Table.{Table, tableOf, countsOf, packedLength, headerWidth, stateWidth, stepWidth, nodeWidth, statesPart, stepsPart, nodesPart, stateOf, stepOf, nodeOf, zeroState, zeroStep, zeroNode, stateAt, stepAt, nodeAt}
 use Rattle.table.specs.Accept.{all, any, distinct, countsFit, stateFits, isInitial, stepFits, nodeFits, nodesFit, recordsVerdict, tableVerdict}
 use Rattle.table.specs.Facts.{Wellformed, Packed}
 use Rattle.table.proofs.Bools.{and-parts}
@@ -24,13 +24,13 @@ use Rattle.table.proofs.Verdicts.{then-accepted, require-accepted}
 
 -- the record that a section has at a number below the count is the table's record of that number
 pub state-read : (bytes : List ℕ) (s : ℕ) → s < countsOf bytes .states → stateOf (drop (stateWidth * s) (statesPart bytes)) ≡ stateAt (tableOf bytes) s
-state-read bytes s h = sym (records-at stateOf stateWidth (countsOf bytes .states) (statesPart bytes) s (record { initial = 0; label = 0 }) h)
+state-read bytes s h = sym (records-at stateOf stateWidth (countsOf bytes .states) (statesPart bytes) s zeroState h)
 
 pub step-read : (bytes : List ℕ) (j : ℕ) → j < countsOf bytes .steps → stepOf (drop (stepWidth * j) (stepsPart bytes)) ≡ stepAt (tableOf bytes) j
-step-read bytes j h = sym (records-at stepOf stepWidth (countsOf bytes .steps) (stepsPart bytes) j (record { from = 0; to = 0 }) h)
+step-read bytes j h = sym (records-at stepOf stepWidth (countsOf bytes .steps) (stepsPart bytes) j zeroStep h)
 
 pub node-read : (bytes : List ℕ) (i : ℕ) → i < countsOf bytes .nodes → nodeOf (drop (nodeWidth * i) (nodesPart bytes)) ≡ nodeAt (tableOf bytes) i
-node-read bytes i h = sym (records-at nodeOf nodeWidth (countsOf bytes .nodes) (nodesPart bytes) i (record { kind = 0; a = 0; b = 0 }) h)
+node-read bytes i h = sym (records-at nodeOf nodeWidth (countsOf bytes .nodes) (nodesPart bytes) i zeroNode h)
 
 -- 3, as bounds on n, e, f and p
 pub record Within (n e f p : ℕ) : Type 0 where
@@ -95,7 +95,7 @@ pub wellformed : (T : Table) → Within (length (T .states)) (length (T .steps))
 wellformed T w e =
     let t = records-accepted T e in
     let state : (s : ℕ) → s < length (T .states) → stateFits (T .props) (stateAt T s) ≡ true = all-at _ (T .states) _ (t .0) in
-    let initial = any-at isInitial (T .states) (record { initial = 0; label = 0 }) (t .1) in
+    let initial = any-at isInitial (T .states) zeroState (t .1) in
     let step : (j : ℕ) → j < length (T .steps) → stepFits (length (T .states)) (stepAt T j) ≡ true = all-at _ (T .steps) _ (t .2) in
     record {
       some-state = w .some-state;

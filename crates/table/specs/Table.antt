@@ -75,12 +75,22 @@ nodesOf bytes = records nodeOf nodeWidth (countsOf bytes .nodes) (nodesPart byte
 abbrev pub tableOf : List ℕ → Table
 tableOf bytes = record { states = statesOf bytes; steps = stepsOf bytes; nodes = nodesOf bytes; props = countsOf bytes .props }
 
--- the record at a number; past the end it is all zeros
+-- the record past the end of its section: all zeros
+abbrev pub zeroState : State
+zeroState = record { initial = 0; label = 0 }
+
+abbrev pub zeroStep : Step
+zeroStep = record { from = 0; to = 0 }
+
+abbrev pub zeroNode : Node
+zeroNode = record { kind = 0; a = 0; b = 0 }
+
+-- the record at a number
 abbrev pub stateAt : Table → ℕ → State
-stateAt T s = getD (T .states) s (record { initial = 0; label = 0 })
+stateAt T s = getD (T .states) s zeroState
 
 abbrev pub stepAt : Table → ℕ → Step
-stepAt T j = getD (T .steps) j (record { from = 0; to = 0 })
+stepAt T j = getD (T .steps) j zeroStep
 
 abbrev pub nodeAt : Table → ℕ → Node
-nodeAt T i = getD (T .nodes) i (record { kind = 0; a = 0; b = 0 })
+nodeAt T i = getD (T .nodes) i zeroNode

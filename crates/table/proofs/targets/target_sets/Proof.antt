@@ -9,7 +9,7 @@ use lib.ListN.{length, take}
 use lib.Seq.{take-suc, take-all}
 use denote.Ref.{now}
 use Rattle.table.specs.declared.counts.Counts.{Counts}
-use Rattle.table.specs.Table.{tableOf, stepsPart}
+use Rattle.table.specs.Table.{tableOf, stepsPart, zeroStep}
 use Rattle.table.specs.Rows.{Rows}
 use Rattle.table.proofs.Accepted.{accepted, read-step}
 use Rattle.table.proofs.Rows.{rows-none, rows-more}
@@ -75,7 +75,7 @@ loop-again c =
     let x = c .before .step-at .result in
     let xs = tableOf (now (start .args .table)) .steps in
     let more : take (loop .j + 1) xs ≡ take (loop .j) xs ++ (x ∷ []) =
-    rw (add-one (loop .j), take-suc xs (loop .j) (record { from = 0; to = 0 }), r .here) in
+    rw (add-one (loop .j), take-suc xs (loop .j) zeroStep, r .here) in
     let rows = rows-more (loop .rows) (take (loop .j) xs) (loop .inv .3) x (r .from-below) (r .to-below) in
     (omega arith, loop .inv .1, loop .inv .2, rw (more, c .insert .ensures) rows)
 
