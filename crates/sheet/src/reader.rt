@@ -4,28 +4,15 @@ use crate::copy::copy_front;
 use crate::form::Form;
 use crate::form::check_form;
 use crate::pack::pack_sheet;
-use table::Counts;
-use table::HEADER_WIDTH;
-use table::NODE_WIDTH;
 use table::Refusal;
-use table::STATE_WIDTH;
-use table::STEP_WIDTH;
 use table::Verdict;
 use table::check_table;
+use table::packed_length;
 ghost use mathlib.Core.Path.{_≡_};
-ghost use Rattle.table.specs.Table.{packedLength};
-ghost use Rattle.sheet.specs.Form.{CountsInRange};
 ghost use Rattle.sheet.specs.Read.{readAnswer, readBuffer};
 
 // The length of the longest table.
 const LONGEST: usize = 452;
-
-fn packed_length(c: Counts) -> usize
-    requires { ⌜ CountsInRange c ⌝ }
-    ensures { λ r. ⌜ r ≡ packedLength c ⌝ }
-{
-    HEADER_WIDTH + STATE_WIDTH * c.states + STEP_WIDTH * c.steps + NODE_WIDTH * c.nodes
-}
 
 // Test 1 first, over the whole text. A table longer than the longest has a count out of its range, 3. Else the values are packed
 // into zero bytes of the reader's own, 3 to 8 are tested there, then 10, and only then the lent buffer is written.

@@ -16,6 +16,7 @@ mod width;
 pub use check::check_table;
 pub use counts::Counts;
 pub use counts::counts_of;
+pub use counts::packed_length;
 pub use list::check_list;
 pub use nodes::Shape;
 pub use nodes::shape_of;

@@ -63,7 +63,9 @@ returns c =
     not-of-form (now (a .text)) (now (a .out)) (sym (c .before .before .check-form .ensures) ∙ ap (formRead (now (a .text))) (c .enum-told .given .1))
 
 packed-length-requires : tie.Need-packed-length-requires
-packed-length-requires c κs = in-range (c .before) .counts
+packed-length-requires c κs =
+    let r = in-range (c .before) .counts in
+    (omega (arith, r .states), (omega (arith, r .steps), omega (arith, r .nodes)))
 
 returns-2 : tie.Need-returns-2
 returns-2 c =
