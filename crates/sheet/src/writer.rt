@@ -2,6 +2,10 @@
 use crate::answer::Rendered;
 use crate::copy::copy_front;
 use crate::emit::put_bytes;
+use crate::names::COUNTS_NAMES;
+use crate::names::NODES_NAMES;
+use crate::names::STATES_NAMES;
+use crate::names::STEPS_NAMES;
 use crate::write_block::write_nodes;
 use crate::write_block::write_states;
 use crate::write_block::write_steps;
@@ -23,13 +27,13 @@ fn write_sheet(table: &[u8], text: &mut [u8]) -> usize
     ensures { λ r. ⌜ Stored (now (text .entry)) 0 (render (sheetOf (now (table .entry)))) (now (text .exit)) r ⌝ }
 {
     let c = counts_of(table);
-    let mut at = put_bytes(text, 0, b"states edges nodes props\n");
+    let mut at = put_bytes(text, 0, &COUNTS_NAMES);
     at = write_counts(text, at, c);
-    at = put_bytes(text, at, b"initial label\n");
+    at = put_bytes(text, at, &STATES_NAMES);
     at = write_states(states_part(table), c.states, text, at);
-    at = put_bytes(text, at, b"from to\n");
+    at = put_bytes(text, at, &STEPS_NAMES);
     at = write_steps(steps_part(table), c.steps, text, at);
-    at = put_bytes(text, at, b"kind a b\n");
+    at = put_bytes(text, at, &NODES_NAMES);
     write_nodes(nodes_part(table), c.nodes, text, at)
 }
 
