@@ -1,5 +1,4 @@
 pub mod Cleared
-pub mod Carried
 pub mod Order
 pub mod Answered
 pub mod Listed

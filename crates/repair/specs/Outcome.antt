@@ -12,9 +12,11 @@ use Rattle.table.specs.Buffer.{onAccepted, over}
 use Rattle.table.specs.Table.{Table, tableOf}
 use Rattle.table.specs.Accept.{tableVerdict}
 use Rattle.circuit.specs.Variables.{variableFormula}
-use Rattle.search.specs.Search.{Outcome, found, none, spent}
+use Rattle.search.specs.declared.outcome.Outcome as Code
+use Rattle.search.specs.declared.outcome.Outcome.the-variants as code
+use Rattle.search.specs.Search.{Outcome}
 use Rattle.search.specs.TableSearch.{searchUnder}
-use Rattle.search.specs.Answer.{listAfter}
+use Rattle.search.specs.Answer.{outcomeOf, listAfter}
 use Rattle.repair.specs.declared.answer.Answer.{Answer}
 use Rattle.repair.specs.declared.answer.Answer.the-variants.{Found, None, Spent, Refused as AnswerRefused}
 
@@ -28,11 +30,15 @@ repairVerdict table list bytes words =
     tableVerdict table
     then require ShortBuffer (buffersFit (tableOf table) (length list) (length bytes) (length words))
 
+-- what the search's code answers, carried over
+abbrev pub carried : Code.Outcome → Answer
+carried (code.Found c) = Found c
+carried (code.None c) = None c
+carried (code.Spent c) = Spent c
+
 -- what the search answers, with its choices
 abbrev pub answerOf : Outcome → Answer
-answerOf (found m c) = Found c
-answerOf (none c) = None c
-answerOf (spent c) = Spent c
+answerOf outcome = carried (outcomeOf outcome)
 
 -- refused where a test refuses, else that
 abbrev pub answerAt : Verdict → Outcome → Answer

@@ -20,9 +20,8 @@ use Rattle.closure.specs.Setting.{Setting, netOf}
 use Rattle.closure.specs.Bases.{AreBases}
 use Rattle.closure.proofs.LevelsFit.{levels-fit}
 use Rattle.search.specs.TableSearch.{searchUnder}
-use Rattle.repair.specs.Outcome.{answerOf}
+use Rattle.repair.specs.Outcome.{carried, answerOf}
 use Rattle.repair.proofs.Cleared.{same-beyond}
-use Rattle.repair.proofs.Carried.{carried, carries}
 use Rattle.repair.proofs.run.run.Statement.{statement}
 use Rattle.repair.proofs.run.run.Tie as tie
 
@@ -67,7 +66,7 @@ search-table-requires c κs =
 answered : (c : tie.After-search-table)
     → carried (c .search-table .result)
     ≡ answerOf (searchUnder (tableOf (now (c .before .before .before .before .before .before .before .before .before .before .before .before .args .table))) (c .before .before .before .before .before .before .before .before .before .before .before .before .args .cap))
-answered c = carries (searchUnder _ _) (c .search-table .result) (c .search-table .ensures .0)
+answered c = ap carried (c .search-table .ensures .0)
 
 -- what the search leaves of the words past the first V
 beyond : (c : tie.After-search-table)
