@@ -11,7 +11,6 @@ pub mod SettledRepair
 pub mod ClosureRight
 pub mod Right
 pub mod StepWords
-pub mod Front
 pub mod Lowest
 pub mod Closing
 pub mod WalkOn

@@ -10,11 +10,12 @@ use lib.ListN.{length, getD, set, drop, length-set}
 use lib.Seq.{take-all}
 use denote.Ref.{now}
 use Rattle.table.specs.declared.counts.Counts.{Counts}
+use Rattle.table.specs.Buffer.{over}
 use Rattle.table.specs.Table.{tableOf, stepAt}
 use Rattle.table.proofs.Accepted.{accepted, read-step}
+use Rattle.table.proofs.Buffer.{over-next}
 use Rattle.ctl.proofs.Tabulate.{length-tabulate, getD-tabulate}
 use Rattle.search.specs.StepRows.{stepBit, keptBytes}
-use Rattle.search.proofs.Front.{front, front-next}
 use Rattle.search.proofs.step_rows.write_list.Statement.{statement}
 use Rattle.search.proofs.step_rows.write_list.Tie as tie
 
@@ -25,7 +26,7 @@ byte-of false = refl
 
 abbrev Inv-loop : tie.InvT-loop
 Inv-loop table rows list₀ e steps j₀ list j =
-    (j ≤ e) × (e ≡ length (tableOf table .steps)) × (list ≡ front j (keptBytes (tableOf table) rows) list₀) × (length list ≡ length list₀)
+    (j ≤ e) × (e ≡ length (tableOf table .steps)) × (list ≡ over j (keptBytes (tableOf table) rows) list₀) × (length list ≡ length list₀)
 
 abbrev μ-loop : tie.MeasureT-loop
 μ-loop table rows list₀ e steps j₀ list j = e - j
@@ -85,7 +86,7 @@ loop-again c =
     ∙ sym (getD-tabulate (length (T .steps)) (λ j. cond (stepBit rows true (stepAt T j)) 1 0) (l .j) 0 (omega arith)) in (
       omega arith,
       l .inv .1,
-      (λ k. set (l .inv .2 k) (l .j) (value k)) ∙ front-next (l .j) (keptBytes T rows) list₀ (rw length-tabulate (omega arith)) (omega (arith, s .pre .2)),
+      (λ k. set (l .inv .2 k) (l .j) (value k)) ∙ over-next (l .j) (keptBytes T rows) list₀ 0 (rw length-tabulate (omega arith)) (omega (arith, s .pre .2)),
       length-set (l .list) (l .j) _ ∙ l .inv .3,
     )
 
@@ -100,7 +101,7 @@ returns c =
     let e = length (tableOf (now (s .args .table)) .steps) in
     let all : l .j ≡ e = omega arith in
     l .inv .2
-    ∙ ap (λ (k : ℕ). front k bytes (now (s .args .list))) all
+    ∙ ap (λ (k : ℕ). over k bytes (now (s .args .list))) all
     ∙ ap (λ (w : List ℕ). w ++ drop e (now (s .args .list))) (take-all e bytes (rw length-tabulate (omega arith)))
 
 pub write-list-spec : {M : Type 1} → statement M
