@@ -159,14 +159,6 @@ static void refusals(void)
     damaged("no list", sample, 36, NULL, 0, 9);
     damaged("list byte 2", sample, 36, two, 4, 9);
     damaged("list byte 255", sample, 36, big, 4, 9);
-    for (unsigned at = 0; at < 36; at++)
-        for (unsigned value = 0; value < 256; value++) {
-            uint8_t table[36];
-            memcpy(table, sample, 36);
-            table[at] = (uint8_t)value;
-            unsigned number = judge(table, 36, list, 4);
-            expect("a byte changed: a number of the judge's", number <= 13 && number != 1 && number != 10, 1);
-        }
 }
 
 /* How many entries of each buffer Repair is lent, and what it is to do with them. */
@@ -381,17 +373,36 @@ static void repair_damaged(const char *what, const uint8_t *table, size_t table_
 }
 
 /* The sample with one byte changed. */
+static void change(uint8_t *table, size_t at, unsigned value)
+{
+    memcpy(table, sample, 36);
+    table[at] = (uint8_t)value;
+}
+
 static void repair_changed(const char *what, size_t at, unsigned value, unsigned wanted)
 {
     uint8_t table[36];
-    memcpy(table, sample, 36);
-    table[at] = (uint8_t)value;
+    change(table, at, value);
     repair_damaged(what, table, 36, wanted);
+}
+
+/* Any byte changed, to any value: the judge gives a number of its own, and what it refuses of the table, Repair refuses with the same number. */
+static void any_byte_changed(void)
+{
+    static const uint8_t list[4] = {1, 1, 0, 1};
+    for (unsigned at = 0; at < 36; at++)
+        for (unsigned value = 0; value < 256; value++) {
+            uint8_t table[36];
+            change(table, at, value);
+            unsigned number = judge(table, 36, list, 4);
+            expect("a byte changed: a number of the judge's", number <= 13 && number != 1 && number != 10, 1);
+            if (number >= 2 && number <= 8)
+                repair_damaged("repair with a byte changed", table, 36, number);
+        }
 }
 
 static void repair_refusals(void)
 {
-    static const uint8_t list[4] = {1, 1, 0, 1};
     uint8_t longer[37];
     memcpy(longer, sample, 36);
     longer[36] = 0;
@@ -409,17 +420,6 @@ static void repair_refusals(void)
     repair_changed("repair a step given twice", 18, 0, 7);
     repair_changed("repair kind 10", 21, 10, 8);
     repair_changed("repair a child not lower", 31, 3, 8);
-
-    /* Any byte changed: what the judge refuses of the table, Repair refuses with the same number. */
-    for (unsigned at = 0; at < 36; at++)
-        for (unsigned value = 0; value < 256; value++) {
-            uint8_t table[36];
-            memcpy(table, sample, 36);
-            table[at] = (uint8_t)value;
-            unsigned number = judge(table, 36, list, 4);
-            if (number >= 2 && number <= 8)
-                repair_damaged("repair with a byte changed", table, 36, number);
-        }
 }
 
 static void all_calls(void)
@@ -430,6 +430,7 @@ static void all_calls(void)
     repairs();
     largest_calls();
     repair_refusals();
+    any_byte_changed();
 }
 
 int main(void)
