@@ -1,5 +1,8 @@
 // Measures Judge on largest tables against the same algorithm in plain Rust, in one run.
 mod fitter;
+mod sequence;
+
+use sequence::Random;
 
 // The same algorithm, not proved: 0 or the number of the refusal.
 mod plain {
@@ -120,16 +123,6 @@ mod plain {
             return 13;
         }
         0
-    }
-}
-
-// A fixed sequence of numbers, the same in every run.
-struct Random(u64);
-
-impl Random {
-    fn below(&mut self, n: u64) -> u64 {
-        self.0 = self.0.wrapping_mul(6364136223846793005).wrapping_add(1442695040888963407);
-        (self.0 >> 33) % n
     }
 }
 

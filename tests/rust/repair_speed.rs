@@ -2,27 +2,11 @@
 // also builds its clauses. The two must agree on every table; how fast they are decides nothing here.
 mod clauses;
 mod fitter;
+mod sequence;
 
+use sequence::Random;
 use std::hint::black_box;
 use std::time::Instant;
-
-// A fixed sequence of numbers, the same in every run.
-struct Random(u64);
-
-impl Random {
-    fn new(seed: u64) -> Self {
-        Random(seed.wrapping_mul(0x9E3779B97F4A7C15))
-    }
-
-    fn below(&mut self, n: u64) -> u64 {
-        self.0 = self.0.wrapping_mul(6364136223846793005).wrapping_add(1442695040888963407);
-        (self.0 >> 33) % n
-    }
-
-    fn between(&mut self, range: (u64, u64)) -> u64 {
-        range.0 + self.below(range.1 + 1 - range.0)
-    }
-}
 
 // The nodes of a rule, and a way to add one more.
 struct Rule(Vec<u8>);

@@ -1,21 +1,21 @@
 -- Repair is decided by labels: the judge's tests 11, 12 and 13 pass just when the list is a repair.
-use Prim.Native.Nat.{ℕ, zero, suc, _≤_, _<_, suc-le-suc}
-use native.Mathlib.Nat.{le-of-suc-le-suc, not-suc-le-zero}
+use Prim.Native.Nat.{ℕ, _<_}
 use native.Mathlib.Omega.{arith}
 use mathlib.Core.Path.{_≡_, refl, sym, _∙_}
 use mathlib.Core.Bool.{Bool, true, false, not, _||_, false≢true, and-eq-true-iff}
 use mathlib.Core.Logic.{_↔_, Iff·trans, Iff·and, Dec·of-iff}
-use mathlib.Core.List.{List, [], _∷_}
+use mathlib.Core.List.{List}
 use borrow.Author.Tests.{eqb-true, eq-eqb, leb-true, le-leb}
 use lib.Dec.{eqb, leb}
-use lib.ListN.{length, getD}
-use Rattle.table.specs.declared.refusal.Refusal.{Refusal}
+use lib.ListN.{length}
 use Rattle.table.specs.declared.refusal.Verdict.{Verdict}
 use Rattle.table.specs.declared.refusal.Verdict.the-variants.{Accepted, Refused}
-use Rattle.table.specs.Verdict.{require, _then_}
 use Rattle.table.specs.Table.{Table, tableOf, stateAt}
 use Rattle.table.specs.Accept.{all, any, tableVerdict, listVerdict}
 use Rattle.table.specs.Facts.{Wellformed}
+use Rattle.table.proofs.Bools.{and-parts, parts-and}
+use Rattle.table.proofs.All.{all-at, at-all}
+use Rattle.table.proofs.Verdicts.{refused, then-accepted, accepted-then, require-accepted, accepted-require}
 use Rattle.ctl.specs.Rule.{rootIndex}
 use Rattle.ctl.specs.Kept.{Initial, IsList, Kept, Total, NodeHolds, Repair}
 use Rattle.ctl.specs.Rank.{First}
@@ -85,42 +85,20 @@ root-marked T wf list total = Iff·trans (all-states T _) (
     means : (s : ℕ) → (marked T list (rootIndex T) s ≡ true) ↔ (Kept T list s × NodeHolds T list (rootIndex T) s)
     means = labels-are-meaning T wf list total (rootIndex T) (root-inside T wf)
 
--- ---- the verdicts
-
-refused-not : (r : Refusal) → ¬ (Refused r ≡ Accepted)
-refused-not r e = let z : _≡_ {A = ℕ} 0 1 = cc in omega arith
-
-require-accepted : (r : Refusal) (b : Bool) → (require r b ≡ Accepted) ↔ (b ≡ true)
-require-accepted r true = (λ e. refl, λ e. refl)
-require-accepted r false = (λ e. absurd (refused-not r e), λ e. absurd (false≢true e))
-
-then-accepted : (v w : Verdict) → (v then w ≡ Accepted) ↔ ((v ≡ Accepted) × (w ≡ Accepted))
-then-accepted Accepted w = (λ e. (refl, e), λ r. r .1)
-then-accepted (Refused r) w = (λ e. absurd (refused-not r e), λ p. p .0)
+-- ---- lists
 
 accepted-dec : (v : Verdict) → Dec (v ≡ Accepted)
 accepted-dec Accepted = yes refl
-accepted-dec (Refused r) = no (refused-not r)
-
--- ---- lists of marks
-
-all-bits : (list : List ℕ) → all (λ b. leb b 1) list ≡ true → (j : ℕ) → j < length list → getD list j 0 ≤ 1
-unfolding all
-all-bits [] e j h = absurd (not-suc-le-zero h)
-all-bits (b ∷ list) e zero h = leb-true b 1 (and-eq-true-iff _ _ .0 e .0)
-all-bits (b ∷ list) e (suc j) h = all-bits list (and-eq-true-iff (leb b 1) _ .0 e .1) j (le-of-suc-le-suc h)
-
-bits-all : (list : List ℕ) → ((j : ℕ) → j < length list → getD list j 0 ≤ 1) → all (λ b. leb b 1) list ≡ true
-unfolding all
-bits-all [] k = refl
-bits-all (b ∷ list) k = and-eq-true-iff _ _ .1 (le-leb b 1 (k zero (omega arith)), bits-all list (λ j h. k (suc j) (suc-le-suc h)))
+accepted-dec (Refused r) = no (refused r)
 
 -- 9 accepts just the kept lists of the table
 pub is-list : (T : Table) (list : List ℕ) → (listVerdict (length (T .steps)) list ≡ Accepted) ↔ IsList T list
 unfolding listVerdict
-is-list T list = Iff·trans (require-accepted _ _) (
-  λ e. let r = and-eq-true-iff (eqb (length list) (length (T .steps))) _ .0 e in record { size = eqb-true _ _ (r .0); bits = all-bits list (r .1) },
-  λ form. and-eq-true-iff _ _ .1 (eq-eqb _ _ (form .size), bits-all list (form .bits)),
+is-list T list = (
+  λ e.
+      let r = and-parts (eqb (length list) (length (T .steps))) _ (require-accepted _ _ e) in
+      record { size = eqb-true _ _ (r .0); bits = λ j h. leb-true _ 1 (all-at (λ b. leb b 1) list 0 (r .1) j h) },
+  λ form. accepted-require _ _ (parts-and _ _ (eq-eqb _ _ (form .size)) (at-all (λ b. leb b 1) list 0 (λ j h. le-leb _ 1 (form .bits j h)))),
 )
 
 -- ---- repairs
@@ -129,11 +107,10 @@ tests-accepted : (T : Table) (list : List ℕ)
     → (repairTests T list ≡ Accepted) ↔ ((isTotal T list ≡ true) × (keepsInitial T list ≡ true) × (rootMarked T list ≡ true))
 tests-accepted T list = (
   λ e.
-      let r = then-accepted _ _ .0 e in
-      let s = then-accepted _ _ .0 (r .1) in
-      (require-accepted _ _ .0 (r .0), require-accepted _ _ .0 (s .0), require-accepted _ _ .0 (s .1)),
-  λ r. then-accepted _ _ .1
-      (require-accepted _ _ .1 (r .0), then-accepted _ _ .1 (require-accepted _ _ .1 (r .1), require-accepted _ _ .1 (r .2))),
+      let r = then-accepted _ _ e in
+      let s = then-accepted _ _ (r .1) in
+      (require-accepted _ _ (r .0), require-accepted _ _ (s .0), require-accepted _ _ (s .1)),
+  λ r. accepted-then _ _ (accepted-require _ _ (r .0)) (accepted-then _ _ (accepted-require _ _ (r .1)) (accepted-require _ _ (r .2))),
 )
 
 -- Tests 11 to 13 accept just the repairs.
@@ -151,10 +128,10 @@ pub judge-accepts-repairs : (table list : List ℕ) → Wellformed (tableOf tabl
 unfolding judgeVerdict
 judge-accepts-repairs table list wf accepted = (
   λ e.
-      let r = then-accepted (listVerdict _ list) _ .0 (then-accepted (tableVerdict table) _ .0 e .1) in
+      let r = then-accepted (listVerdict _ list) _ (then-accepted (tableVerdict table) _ e .1) in
       repair-decided (tableOf table) wf list (is-list (tableOf table) list .0 (r .0)) .0 (r .1),
-  λ r. then-accepted (tableVerdict table) _ .1
-      (accepted, then-accepted _ _ .1 (is-list (tableOf table) list .1 (r .form), repair-decided (tableOf table) wf list (r .form) .1 r)),
+  λ r. accepted-then (tableVerdict table) _ accepted
+      (accepted-then _ _ (is-list (tableOf table) list .1 (r .form)) (repair-decided (tableOf table) wf list (r .form) .1 r)),
 )
 
 -- Whether a list is a repair can be decided.

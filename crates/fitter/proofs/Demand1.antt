@@ -31,11 +31,12 @@ use Rattle.label.proofs.Exact.{label-untouched, label-written}
 use Rattle.label.proofs.Held.{held-count, held-once, held-member, held-few}
 use Rattle.label.proofs.Order.{table-accepted, room-accepted}
 use Rattle.sheet.specs.declared.answer.Read.{Read}
-use Rattle.sheet.specs.declared.answer.Read.the-variants.{Length, Refused as ReadRefused}
+use Rattle.sheet.specs.declared.answer.Read.the-variants.{Refused as ReadRefused}
 use Rattle.sheet.specs.Form.{Sheet}
 use Rattle.sheet.specs.Parse.{parse}
 use Rattle.sheet.specs.Read.{pack, packed, sheetVerdict, readVerdict, answer, readBuffer}
 use Rattle.sheet.proofs.Whole.{parse-exact}
+use Rattle.sheet.proofs.Outcome.{length-back}
 use Rattle.repair.specs.declared.answer.Answer.{Answer}
 use Rattle.repair.specs.Outcome.{repairVerdict, repairList}
 use Rattle.repair.proofs.Answered.{refused-back, found-back, none-back, spent-back, choices-back}
@@ -141,10 +142,6 @@ read-refused : (v : Verdict) (table : List ℕ) (r : Refusal) → answer v table
 read-refused Accepted table r e = absurd (let z : _≡_ {A = ℕ} 0 1 = cc in omega arith)
 read-refused (Refused q) table r e = cc
 
-read-length : (v : Verdict) (table : List ℕ) (k : ℕ) → answer v table ≡ Length k → (v ≡ Accepted) × (length table ≡ k)
-read-length Accepted table k e = (refl, cc)
-read-length (Refused q) table k e = absurd (let z : _≡_ {A = ℕ} 0 1 = cc in omega arith)
-
 -- a text that is accepted is of sheet form, and its table fits
 read-sheet : (text : List ℕ) (room : ℕ) → readVerdict text room ≡ Accepted → (v : Sheet) × (parse text ≡ some v) × (length (pack v) ≤ room)
 unfolding readVerdict
@@ -165,7 +162,7 @@ module _ (text buffer : List ℕ) where
     untouched = λ r e.
         (read-after (Refused r) (read-refused (readVerdict text (length buffer)) (packed (parse text)) r e) (parse text) refl, λ before. ap (λ (a : Read). readLength a before) e);
     written = λ k e.
-        let b = read-length (readVerdict text (length buffer)) (packed (parse text)) k e in
+        let b = length-back (readVerdict text (length buffer)) (packed (parse text)) k e in
         let s = read-sheet text (length buffer) (b .0) in
         let v = s .0 in
         let form = parse-exact text v .0 (s .1) in (

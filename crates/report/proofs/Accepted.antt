@@ -1,6 +1,6 @@
 -- A length that Read answers: the buffer's first bytes, so many, are an accepted table.
 use Prim.Native.Nat.{ℕ, _≤_}
-use mathlib.Core.Path.{_≡_, refl, ap, _∙_}
+use mathlib.Core.Path.{_≡_, ap, _∙_}
 use mathlib.Core.List.{List, _++_}
 use mathlib.Core.Option.{Option, none, some}
 use native.Mathlib.Omega.{arith}
@@ -10,21 +10,17 @@ use lib.ListN.{length, take, drop}
 use lib.Seq.{take-at}
 use Rattle.table.specs.declared.refusal.Refusal.the-variants.{SheetForm, ShortBuffer}
 use Rattle.table.specs.declared.refusal.Verdict.{Verdict}
-use Rattle.table.specs.declared.refusal.Verdict.the-variants.{Accepted, Refused}
+use Rattle.table.specs.declared.refusal.Verdict.the-variants.{Accepted}
 use Rattle.table.specs.Buffer.{onAccepted}
 use Rattle.table.specs.Accept.{tableVerdict}
 use Rattle.table.proofs.Verdicts.{refused, then-accepted, require-accepted}
 use Rattle.sheet.specs.declared.answer.Read.the-variants.{Length}
 use Rattle.sheet.specs.Form.{Sheet}
 use Rattle.sheet.specs.Parse.{parse}
-use Rattle.sheet.specs.Read.{pack, packed, sheetVerdict, readVerdict, answer, readAnswer, readBuffer}
+use Rattle.sheet.specs.Read.{pack, packed, sheetVerdict, readVerdict, readAnswer, readBuffer}
+use Rattle.sheet.proofs.Outcome.{length-back}
 
--- a length is answered where every test passed
-length-back : (v : Verdict) (table : List ℕ) (k : ℕ) → answer v table ≡ Length k → (v ≡ Accepted) × (length table ≡ k)
-length-back Accepted table k e = (refl, cc)
-length-back (Refused q) table k e = absurd (let z : _≡_ {A = ℕ} 0 1 = cc in omega arith)
-
--- then the packed table was accepted, and has room
+-- where every test passed, the packed table was accepted, and has room
 tests-passed : (p : Option Sheet) (room : ℕ) → sheetVerdict p room ≡ Accepted → (tableVerdict (packed p) ≡ Accepted) × (length (packed p) ≤ room)
 tests-passed none room h = absurd (refused SheetForm h)
 tests-passed (some v) room h =

@@ -1,7 +1,6 @@
 -- Every entry of the list that Repair leaves in zero bytes is 0 or 1.
 use Prim.Native.Nat.{ℕ, zero, suc, _+_, _≤_}
 use mathlib.Core.Path.{sym, subst}
-use mathlib.Core.Bool.{true, false}
 use mathlib.Core.List.{List, [], _∷_, _++_, map}
 use native.Mathlib.Omega.{arith}
 use lib.ListN.{length, getD, drop}
@@ -11,10 +10,11 @@ use Rattle.table.specs.declared.refusal.Verdict.the-variants.{Accepted, Refused
 use Rattle.table.specs.Buffer.{onAccepted}
 use Rattle.table.specs.Table.{Table}
 use Rattle.ctl.specs.Levels.{below}
-use Rattle.closure.specs.Closure.{Mark, Marks, unknown, known, markAt}
+use Rattle.closure.specs.Closure.{Marks, markAt}
 use Rattle.search.specs.Search.{Outcome, found, none, spent}
 use Rattle.search.specs.TableSearch.{bitOf, listOf}
 use Rattle.search.specs.Answer.{listAfter}
+use Rattle.search.proofs.Agree.{bit-le}
 use Rattle.report.specs.Report.{zeros}
 
 abbrev pub Bits : List ℕ → Type 0
@@ -33,14 +33,9 @@ bits-zeros zero i = omega arith
 bits-zeros (suc n) zero = omega arith
 bits-zeros (suc n) (suc i) = bits-zeros n i
 
-bit-of : (m : Mark) → bitOf m ≤ 1
-bit-of unknown = omega arith
-bit-of (known true) = omega arith
-bit-of (known false) = omega arith
-
 bits-map : (m : Marks) (steps : List ℕ) → Bits (map (λ j. bitOf (markAt m j)) steps)
 bits-map m [] i = omega arith
-bits-map m (j ∷ steps) zero = bit-of (markAt m j)
+bits-map m (j ∷ steps) zero = bit-le (markAt m j)
 bits-map m (j ∷ steps) (suc i) = bits-map m steps i
 
 -- what the search leaves, and what Repair leaves

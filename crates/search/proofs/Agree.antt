@@ -1,14 +1,15 @@
 -- The list that marks give, and the lists that agree with literals.
-use Prim.Native.Nat.{ℕ, zero, suc, _<_}
+use Prim.Native.Nat.{ℕ, zero, suc, _≤_, _<_}
 use mathlib.Core.Path.{_≡_, refl, ap, _∙_}
 use mathlib.Core.Logic.{⊎-elim}
-use mathlib.Core.Bool.{cond}
+use mathlib.Core.Bool.{true, false, cond}
 use mathlib.Core.List.{List, [], _∷_, map, List·Memᴰ, List·Memᴰ·not-nil, List·Memᴰ·cases-cons}
+use native.Mathlib.Omega.{arith}
 use lib.ListN.{length, getD}
 use Rattle.ctl.specs.Levels.{tabulate}
 use Rattle.ctl.proofs.Tabulate.{length-tabulate, getD-tabulate}
 use Rattle.circuit.specs.Logic.{Literal}
-use Rattle.closure.specs.Closure.{Marks, markAt}
+use Rattle.closure.specs.Closure.{Mark, unknown, known, Marks, markAt}
 use Rattle.search.specs.TableSearch.{bitOf, bytesOf}
 
 -- ---- the list of marks
@@ -17,6 +18,12 @@ map-tabulate : {A B : Type 0} (f : A → B) (n : ℕ) (g : ℕ → A) → map f 
 unfolding tabulate
 map-tabulate f zero g = refl
 map-tabulate f (suc n) g = ap (λ l. f (g zero) ∷ l) (map-tabulate f n (λ k. g (suc k)))
+
+-- its bytes are 0 and 1
+pub bit-le : (x : Mark) → bitOf x ≤ 1
+bit-le unknown = omega arith
+bit-le (known true) = omega arith
+bit-le (known false) = omega arith
 
 -- the list has e bytes
 pub length-bytesOf : (e : ℕ) (m : Marks) → length (bytesOf e m) ≡ e

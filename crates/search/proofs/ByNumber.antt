@@ -8,11 +8,10 @@ use lib.ListN.{length}
 use Rattle.table.specs.Table.{Table}
 use Rattle.table.specs.Facts.{Wellformed}
 use Rattle.circuit.specs.Logic.{Literal, opposite}
-use Rattle.circuit.specs.Variables.{Var, step, variables}
+use Rattle.circuit.specs.Variables.{Var, step, variables, variableCount}
 use Rattle.circuit.specs.Clauses.{clauses}
 use Rattle.circuit.proofs.Lists.{each-map}
-use Rattle.circuit.proofs.NoRepeat.{member-at}
-use Rattle.circuit.proofs.Distinct.{step-first}
+use Rattle.circuit.proofs.Outputs.{step-variable}
 use Rattle.circuit.proofs.Covered.{clause-variables}
 use Rattle.circuit.proofs.Settled.{Closed}
 use Rattle.closure.specs.Closure.{Forced, given, unit, Fails}
@@ -22,7 +21,7 @@ use Rattle.closure.specs.Advance.{ForcedBy}
 use Rattle.closure.specs.Given.{Given, Within}
 use Rattle.closure.proofs.Forced.{forced-least}
 use Rattle.closure.proofs.Places.{place-step, place-injective, steps-fit}
-use Rattle.search.specs.Stands.{stepLiterals}
+use Rattle.search.specs.Stands.{Fine, stepLiterals}
 
 -- the numbered literal is in S
 abbrev pub ByNumber : Table → (Literal ℕ → Type 0) → Literal Var → Type 0
@@ -37,9 +36,9 @@ forced-numbered T P C c l h alone =
     (λ k m other. alone k m (λ e. other (ap (numberedLiteral T) e))))
 
 module _ (T : Table) where
-  -- a step is a variable of the table
-  step-variable : (j : ℕ) → j < length (T .steps) → List·Memᴰ (step j) (variables T)
-  step-variable j h = subst (λ v. List·Memᴰ v (variables T)) (step-first T j h) (member-at (variables T) (step 0) j (omega (arith, steps-fit T)))
+  -- literals of steps are of variables
+  pub fine-within : {P : List (Literal ℕ)} → Fine (length (T .steps)) P → Within (variableCount T) P
+  fine-within fine l h = omega (arith, fine .within l h, steps-fit T)
 
   -- a literal of a step has the step's number
   step-number : (l : Literal ℕ) → l .var < length (T .steps) → numberedLiteral T (literal (l .sign) (step (l .var))) ≡ l

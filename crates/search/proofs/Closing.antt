@@ -14,21 +14,16 @@ use Rattle.closure.specs.Closure.{Marks, markAt, known, Progress, clash, marked
 use Rattle.closure.specs.Numbered.{numberedClauses}
 use Rattle.closure.specs.Memory.{Memory}
 use Rattle.closure.specs.Closes.{stepKnown, Closes}
-use Rattle.closure.specs.Given.{Within}
 use Rattle.closure.proofs.Computed.{closure-fails, closure-holds}
 use Rattle.closure.proofs.Places.{steps-fit, numbered-inside}
 use Rattle.search.specs.Stands.{Fine, closureOf, stepLiterals}
-use Rattle.search.proofs.ByNumber.{steps-same, fails-same}
+use Rattle.search.proofs.ByNumber.{fine-within, steps-same, fails-same}
 
 module _ (T : Table) (wf : Wellformed T) (P : List (Literal ℕ)) (fine : Fine (length (T .steps)) P)
     (fails : Bool) (M : Memory) (closes : Closes T (stepLiterals P) fails M) where
-  -- the steps are variables
-  wider : Within (variableCount T) P
-  wider l h = omega (arith, fine .within l h, steps-fit T)
-
   pub closed-clash : (fails ≡ true) ↔ (closureOf T P ≡ clash)
   closed-clash =
-      let computed = closure-fails (variableCount T) (numberedClauses T) P (numbered-inside T wf) (fine .consistent) wider in
+      let computed = closure-fails (variableCount T) (numberedClauses T) P (numbered-inside T wf) (fine .consistent) (fine-within T fine) in
       let same = fails-same T wf P (fine .within) in
       (λ e. computed .1 (same .0 (closes .fails-exact .0 e)), λ e. closes .fails-exact .1 (same .1 (computed .0 e)))
 
@@ -47,5 +42,5 @@ module _ (T : Table) (wf : Wellformed T) (P : List (Literal ℕ)) (fine : Fine (
       let l : Literal ℕ = record { sign = sign; var = i } in
       let rows = closes .exact e i sign h in
       let same = steps-same T wf P (fine .within) l h in
-      let marks = closure-holds (variableCount T) (numberedClauses T) P (numbered-inside T wf) (fine .consistent) wider m new q l (omega (arith, steps-fit T)) in
+      let marks = closure-holds (variableCount T) (numberedClauses T) P (numbered-inside T wf) (fine .consistent) (fine-within T fine) m new q l (omega (arith, steps-fit T)) in
       (λ k. marks .1 (same .0 (rows .0 k)), λ k. rows .1 (same .1 (marks .0 k)))

@@ -1,5 +1,5 @@
 -- Marks that a closure reaches and that settle every step are a model of the clauses, and the list that they give is a repair.
-use Prim.Native.Nat.{ℕ, _≤_, _<_}
+use Prim.Native.Nat.{ℕ, _<_}
 use native.Mathlib.Omega.{arith}
 use mathlib.Core.Path.{_≡_, refl, sym, ap, subst, _∙_}
 use mathlib.Core.Bool.{Bool, true, false, false≢true}
@@ -23,7 +23,7 @@ use Rattle.search.specs.TableSearch.{bitOf, bytesOf}
 use Rattle.closure.proofs.Forced.{Occurs, settled-models}
 use Rattle.closure.proofs.Marks.{Holds, literal-path, holds-once}
 use Rattle.closure.proofs.Computed.{held-forced, forced-held}
-use Rattle.search.proofs.Agree.{length-bytesOf, getD-bytesOf}
+use Rattle.search.proofs.Agree.{bit-le, length-bytesOf, getD-bytesOf}
 use Rattle.closure.proofs.Places.{place-step, numbered-inside, numbered-nonempty}
 use Rattle.closure.proofs.Models.{onVariables, numbered-model}
 use Rattle.search.proofs.ByNumber.{ByNumber, forced-numbered}
@@ -47,11 +47,6 @@ known-cases : (x : Mark) → isKnown x ≡ true → (x ≡ known true) ⊎ (x �
 known-cases unknown e = absurd (false≢true e)
 known-cases (known true) e = inl refl
 known-cases (known false) e = inr refl
-
-bit-le : (x : Mark) → bitOf x ≤ 1
-bit-le unknown = omega arith
-bit-le (known true) = omega arith
-bit-le (known false) = omega arith
 
 -- what marks say of each number
 abbrev saying : Marks → ℕ → Bool

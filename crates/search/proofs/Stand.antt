@@ -2,13 +2,14 @@
 use Prim.Native.Nat.{ℕ, suc, _≤_, _<_}
 use native.Mathlib.Omega.{arith}
 use mathlib.Core.Path.{_≡_, refl, sym, ap, _∙_}
-use mathlib.Core.Bool.{Bool, true, false, cond, true≢false, false≢true}
+use mathlib.Core.Bool.{Bool, true, false, cond, false≢true}
 use mathlib.Core.List.{List, [], _∷_, List·Memᴰ}
 use lib.ListN.{length, getD}
 use lib.Seq.{ext-getD}
 use Rattle.ctl.specs.Rank.{First}
 use Rattle.circuit.specs.Logic.{Literal}
 use Rattle.closure.specs.Closure.{Mark, unknown, known, Marks, markAt, isKnown, Progress, marked}
+use Rattle.closure.proofs.Marks.{unknown-at}
 use Rattle.search.proofs.InOrder.{below-suc}
 use Rattle.search.specs.TableSearch.{bitOf, bytesOf}
 use Rattle.search.proofs.Agree.{length-bytesOf, getD-bytesOf, member-none, member-more, Among}
@@ -18,10 +19,6 @@ use Rattle.search.proofs.Needs.{ClosureIsRight}
 pub known-of : (m : Mark) → isKnown m ≡ true → (x : Bool) × (m ≡ known x)
 known-of unknown i = absurd (false≢true i)
 known-of (known x) i = (x, refl)
-
-unknown-of : (m : Mark) → isKnown m ≡ false → m ≡ unknown
-unknown-of unknown i = refl
-unknown-of (known x) i = absurd (true≢false i)
 
 module _ {e : ℕ} {Model : List ℕ → Type 0} {close : List (Literal ℕ) → Progress} {Fine : List (Literal ℕ) → Type 0}
     (right : ClosureIsRight e Model close Fine) where
@@ -46,7 +43,7 @@ module _ {e : ℕ} {Model : List ℕ → Type 0} {close : List (Literal ℕ) →
   module _ {k : ℕ} {P : List (Literal ℕ)} {m : Marks} (s : Stands k P m) (inside : k < e) (i : isKnown (markAt m k) ≡ false) (sign : Bool) where
     -- an unsettled step may be chosen
     pub fine-choice : Fine (record { sign = sign; var = k } ∷ P)
-    fine-choice = right .fine-more (s .fine) (s .closed) k sign inside (unknown-of (markAt m k) i)
+    fine-choice = right .fine-more (s .fine) (s .closed) k sign inside (unknown-at m k i)
 
     -- past it, chosen
     pub stands-choice : (m′ : Marks) (b : Bool) → close (record { sign = sign; var = k } ∷ P) ≡ marked m′ b

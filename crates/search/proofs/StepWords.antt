@@ -1,19 +1,18 @@
 -- The words of the step rows, and what one step more changes in them.
 use Prim.Native.Nat.{ℕ, _^_, _<_}
 use mathlib.Core.Path.{_≡_, refl, sym, ap, _∙_}
-use mathlib.Core.Bool.{Bool, true, false, _||_, false≢true, and-eq-true-iff, or-eq-true-iff}
+use mathlib.Core.Bool.{Bool, true, false, _||_, and-eq-true-iff, or-eq-true-iff}
 use mathlib.Core.Logic.{_⊎_, inl, inr, Or·inr}
 use mathlib.Core.List.{List}
-use native.Mathlib.Decide.{decLt}
 use native.Mathlib.Omega.{arith}
 use borrow.Author.Tests.{lt-ltb, eq-eqb, eqb-true}
 use lib.Dec.{eqb, ltb}
 use lib.ListN.{getD}
 use Rattle.sets.specs.Member.{member, setOf}
-use Rattle.sets.proofs.Laws.{member-past}
 use Rattle.sets.proofs.SetOf.{member-setOf}
 use Rattle.closure.specs.Row.{known}
 use Rattle.closure.specs.Memory.{rowAt, stepPlace}
+use Rattle.closure.proofs.RowLaws.{member-below}
 use Rattle.search.specs.StepRows.{wordOf}
 
 -- those of the states below 32 are the first 64
@@ -32,14 +31,6 @@ word-apart true true s t e = (refl, omega arith)
 word-apart true false s t e = absurd (omega arith)
 word-apart false true s t e = absurd (omega arith)
 word-apart false false s t e = (refl, omega arith)
-
--- a member of a word is below 32
-pub member-below : (w s : ℕ) → w < 2 ^ 32 → member w s ≡ true → s < 32
-member-below w s h e = go (decLt s 32)
-  where
-    go : Dec (s < 32) → s < 32
-    go (yes l) = l
-    go (no l) = absurd (false≢true (sym (member-past 32 w s h (omega arith)) ∙ e))
 
 -- ---- a set with one member more
 

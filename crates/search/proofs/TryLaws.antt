@@ -15,9 +15,8 @@ use Rattle.circuit.specs.Variables.{variableCount}
 use Rattle.closure.specs.Closure.{Marks, Progress, clash, marked}
 use Rattle.closure.specs.Memory.{Memory}
 use Rattle.closure.specs.Numbered.{numberedClauses}
-use Rattle.closure.specs.Given.{Within}
 use Rattle.closure.proofs.Grow.{closure-keeps}
-use Rattle.closure.proofs.Places.{steps-fit, numbered-inside}
+use Rattle.closure.proofs.Places.{numbered-inside}
 use Rattle.search.specs.declared.choices.Choices.{Choices}
 use Rattle.search.specs.declared.choices.Choice.the-variants.{Next, AtCap}
 use Rattle.search.specs.declared.outcome.Outcome.{Outcome as Answer}
@@ -31,6 +30,7 @@ use Rattle.search.specs.Stands.{Fine, StandsAt, GoesOn, Gives, Somewhere
 use Rattle.search.proofs.Step.{orElse}
 use Rattle.search.proofs.Cap.{walk-cut}
 use Rattle.search.proofs.Stand.{Stands, fine-choice, stands-choice}
+use Rattle.search.proofs.ByNumber.{fine-within}
 use Rattle.search.proofs.ClosureRight.{closure-is-right}
 use Rattle.search.proofs.Giving.{gives-same, gives-stays, gives-else, cut-choices, none-choices}
 use Rattle.search.proofs.ChoiceCount.{counted-cap, counted-next}
@@ -58,13 +58,10 @@ module _ (T : Table) (wf : Wellformed T) (count : Choices) (j : ℕ) (rows : Lis
     closed = at .closed;
     held = λ l i. (
       at .fine .within l i,
-      closure-keeps (variableCount T) (numberedClauses T) P (numbered-inside T wf) (at .fine .consistent) wide (at .closed) i,
+      closure-keeps (variableCount T) (numberedClauses T) P (numbered-inside T wf) (at .fine .consistent) (fine-within T (at .fine)) (at .closed) i,
     );
     settled = at .settled;
   }
-    where
-      wide : Within (variableCount T) P
-      wide l h = omega (arith, at .fine .within l h, steps-fit T)
 
   -- it may be chosen
   pub try-fine : Fine (length (T .steps)) (record { sign = sign; var = j } ∷ P)

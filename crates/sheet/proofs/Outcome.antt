@@ -58,6 +58,11 @@ module _ (text out : List ℕ) where
         outcome Accepted
         (then-next (tableVerdict (pack v)) (require ShortBuffer (leb (length (pack v)) (length out))) h ∙ ap (require ShortBuffer) (le-leb (length (pack v)) (length out) l))
 
+-- a length is answered where every test passed
+pub length-back : (v : Verdict) (table : List ℕ) (k : ℕ) → answer v table ≡ Length k → (v ≡ Accepted) × (length table ≡ k)
+length-back Accepted table k e = (refl, cc)
+length-back (Refused q) table k e = absurd (let z : _≡_ {A = ℕ} 0 1 = cc in omega arith)
+
 -- a table of more than 452 bytes has a count out of its range
 pub too-long : (v : Sheet) → InRange v → 452 < packedLength (v .counts) → tableVerdict (pack v) ≡ Refused CountsRefused
 unfolding tableVerdict
