@@ -6,7 +6,9 @@ pub mod Lines
 pub mod Whole
 pub mod Packed
 pub mod Times
+pub mod Blocks
 pub mod Stores
+pub mod Packing
 pub mod Outcome
 pub mod Left
 pub mod Number

@@ -1,10 +1,9 @@
 -- `states_block` meets its contract: the names, then the lines.
-use mathlib.Core.Path.{_≡_, sym, ap, _∙_}
 use lib.ListN.{drop}
 use denote.Ref.{now}
 use Rattle.sheet.specs.Form.{statesNames}
-use Rattle.sheet.specs.Parse.{got, broken, exactly, times, stateParser}
-use Rattle.sheet.specs.Place.{placed, values}
+use Rattle.sheet.specs.Parse.{stateParser}
+use Rattle.sheet.proofs.Blocks.{no-names, no-lines, all-lines}
 use borrow.Author.Needs.{needs}
 use Rattle.sheet.proofs.block.states_block.Statement.{statement}
 use Rattle.sheet.proofs.block.states_block.Tie as tie
@@ -24,9 +23,7 @@ enum-told c = search needs
 returns : tie.Need-returns
 returns c =
     let a = c .before .before .before .before .before .args in
-    let l = now (a .text) in
-    let e1 : exactly statesNames (drop (a .at) l) ≡ broken = sym (c .before .before .skip-names .ensures) ∙ ap (placed l tt) (c .enum-told .given .1) in
-    rw e1
+    no-names statesNames (now (a .text)) (drop (a .at) (now (a .text))) (a .count) stateParser (c .before .before .skip-names .ensures) (c .enum-told .given .1)
 
 skip-states-requires : tie.Need-skip-states-requires
 skip-states-requires c κs = search needs
@@ -40,21 +37,15 @@ enum-told-2 c = search needs
 returns-2 : tie.Need-returns-2
 returns-2 c =
     let a = c .before .before .before .before .before .before .before .before .before .args in
-    let l = now (a .text) in
     let v = c .before .before .before .before .first .given in
-    let e1 : exactly statesNames (drop (a .at) l) ≡ got tt (drop (v .0 .0) l) = sym (c .before .before .before .before .before .before .skip-names .ensures) ∙ ap (placed l tt) (v .1) in
-    let e2 : times (a .count) stateParser (drop (v .0 .0) l) ≡ broken = sym (c .before .before .skip-states .ensures) ∙ ap (placed l (values (a .count) stateParser (drop (v .0 .0) l))) (c .enum-told2 .given .1) in
-    rw (e1, e2)
+    no-lines statesNames (now (a .text)) (drop (a .at) (now (a .text))) (a .count) stateParser (c .before .before .before .before .before .before .skip-names .ensures) (v .0 .0) (v .1) (c .before .before .skip-states .ensures) (c .enum-told2 .given .1)
 
 returns-3 : tie.Need-returns-3
 returns-3 c =
     let a = c .before .before .before .before .before .before .before .before .before .before .args in
-    let l = now (a .text) in
     let v = c .before .before .before .before .before .first .given in
     let w = c .before .next .given in
-    let e1 : exactly statesNames (drop (a .at) l) ≡ got tt (drop (v .0 .0) l) = sym (c .before .before .before .before .before .before .before .skip-names .ensures) ∙ ap (placed l tt) (v .1) in
-    let e2 : times (a .count) stateParser (drop (v .0 .0) l) ≡ got (values (a .count) stateParser (drop (v .0 .0) l)) (drop (w .0 .0) l) = sym (c .before .before .before .skip-states .ensures) ∙ ap (placed l (values (a .count) stateParser (drop (v .0 .0) l))) (w .1) in
-    rw (e1, e2)
+    all-lines statesNames (now (a .text)) (drop (a .at) (now (a .text))) (a .count) stateParser (c .before .before .before .before .before .before .before .skip-names .ensures) (v .0 .0) (v .1) (c .before .before .before .skip-states .ensures) (w .0 .0) (w .1)
 
 pub states-block-spec : {M : Type 1} → statement M
 states-block-spec =

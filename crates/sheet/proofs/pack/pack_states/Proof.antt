@@ -1,21 +1,17 @@
 -- `pack_states` meets its contract. The loop's invariant: what is left to store makes of the buffer what all would make of it.
 -- `pack_states` meets its contract. The loop's invariant: what is left to store makes of the buffer what all would make of it.
-use Prim.Native.Nat.{ℕ, _+_, _*_, _-_, _≤_}
+use Prim.Native.Nat.{_+_, _*_, _≤_}
 use mathlib.Core.Path.{_≡_, refl, sym, ap, _∙_}
-use mathlib.Core.List.{List}
 use native.Mathlib.Omega.{arith}
 use borrow.Author.Needs.{needs}
 use lib.ListN.{length, drop}
-use lib.Seq.{sets, length-sets}
+use lib.Seq.{length-sets}
 use denote.Ref.{now}
-use Rattle.table.specs.declared.record.State.{State}
-use Rattle.sheet.specs.Form.{bytesOf}
-use Rattle.sheet.specs.Parse.{got, broken, stateParser}
-use Rattle.sheet.specs.Place.{stateRead, values}
+use Rattle.sheet.specs.Parse.{got, stateParser}
+use Rattle.sheet.specs.Place.{stateRead}
 use Rattle.sheet.specs.Read.{packState}
 use Rattle.sheet.proofs.Lines.{state-exact}
-use Rattle.sheet.proofs.Times.{values-next, values-broken}
-use Rattle.sheet.proofs.Stores.{sets-append}
+use Rattle.sheet.proofs.Packing.{linesStored, stored-next, stored-broken, stored-all}
 use Rattle.sheet.proofs.pack.pack_states.Statement.{statement}
 use Rattle.sheet.proofs.pack.pack_states.Tie as tie
 use Rattle.table.specs.Table.{stateWidth}
@@ -24,7 +20,7 @@ abbrev Inv-loop : tie.InvT-loop
 Inv-loop text at count packed₀ from place₀ to₀ left₀ packed place to left =
     (length packed ≡ length packed₀)
     × (to + stateWidth * left ≤ length packed₀)
-    × (sets packed to (bytesOf packState (values left stateParser (drop place text))) ≡ sets packed₀ from (bytesOf packState (values count stateParser (drop at text))))
+    × (linesStored stateParser packState packed to left (drop place text) ≡ linesStored stateParser packState packed₀ from count (drop at text))
 
 abbrev μ-loop : tie.MeasureT-loop
 μ-loop text at count packed₀ from place₀ to₀ left₀ packed place to left = left
@@ -45,12 +41,10 @@ same-length : tie.Need-same-length Inv-loop μ-loop
 same-length c = c .before .before .before .before .loop .inv .0
 
 returns : tie.Need-returns Inv-loop μ-loop
-unfolding bytesOf
 returns c =
     let l = now (c .before .before .before .before .before .before .before .args .text) in
     let i = c .before .before .before .before .loop in
-    let e : stateParser (drop (i .place) l) ≡ broken = sym (c .before .before .read-state .ensures) ∙ ap (stateRead l) (c .enum-told .given .1) in
-    ap (λ (xs : List State). sets (i .packed) (i .to) (bytesOf packState xs)) (sym (values-broken stateParser (i .left) (drop (i .place) l) e)) ∙ i .inv .2
+    stored-broken stateParser packState (i .packed) (i .to) (i .left) (drop (i .place) l) (sym (c .before .before .read-state .ensures) ∙ ap (stateRead l) (c .enum-told .given .1)) ∙ i .inv .2
 
 put-state-requires : tie.Need-put-state-requires Inv-loop μ-loop
 put-state-requires c κs =
@@ -69,33 +63,25 @@ loop-less : tie.Need-loop-less Inv-loop μ-loop
 loop-less c = omega arith
 
 loop-again : tie.Need-loop-again Inv-loop μ-loop
-unfolding bytesOf
 loop-again c =
     let l = now (c .before .before .before .before .before .before .before .before .before .before .before .before .args .text) in
     let i = c .before .before .before .before .before .before .before .before .before .loop in
     let v = c .before .before .before .before .before .s .given in
     let e : stateParser (drop (i .place) l) ≡ got (v .0 .0) (drop (v .0 .1 .0) l) = sym (c .before .before .before .before .before .before .before .read-state .ensures) ∙ ap (stateRead l) (v .1) in
-    let more = values-next stateParser (i .left) (drop (i .place) l) (v .0 .0) (drop (v .0 .1 .0) l) (c .before .before .before .before .before .before .before .before .loop-test .taken) e in
-    let stored : c .before .before .put-state .last .0 ≡ sets (i .packed) (i .to) (packState (v .0 .0)) = c .before .before .put-state .ensures in
-    let rest = bytesOf packState (values (i .left - 1) stateParser (drop (v .0 .1 .0) l)) in (
+    let stored = c .before .before .put-state .ensures in (
       ap length stored ∙ length-sets (i .packed) (i .to) (packState (v .0 .0)) ∙ i .inv .0,
       omega arith,
-      ap (λ (p : List ℕ). sets p (i .to + 3) rest) stored
-          ∙ sym (sets-append (packState (v .0 .0)) rest (i .packed) (i .to))
-          ∙ ap (λ (xs : List State). sets (i .packed) (i .to) (bytesOf packState xs)) (sym more)
-          ∙ i .inv .2,
+      stored-next stateParser packState (i .packed) (i .to) (i .left) (drop (i .place) l) (c .before .before .before .before .before .before .before .before .loop-test .taken) (v .0 .0) (drop (v .0 .1 .0) l) e _ stored ∙ i .inv .2,
     )
 
 same-length-2 : tie.Need-same-length-2 Inv-loop μ-loop
 same-length-2 c = c .before .loop .inv .0
 
 returns-2 : tie.Need-returns-2 Inv-loop μ-loop
-unfolding bytesOf values
 returns-2 c =
     let l = now (c .before .before .before .before .args .text) in
     let i = c .before .loop in
-    let k : 0 ≡ i .left = omega arith in
-    ap (λ (n : ℕ). sets (i .packed) (i .to) (bytesOf packState (values n stateParser (drop (i .place) l)))) k ∙ i .inv .2
+    stored-all stateParser packState (i .packed) (i .to) (i .left) (drop (i .place) l) (omega arith) ∙ i .inv .2
 
 pub pack-states-spec : {M : Type 1} → statement M
 pack-states-spec =

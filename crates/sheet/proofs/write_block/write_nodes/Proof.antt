@@ -1,27 +1,22 @@
 -- `write_nodes` meets its contract. The loop's invariant: the lines from i on are left.
-use Prim.Native.Nat.{_+_, _-_, _≤_, zero-le}
-use mathlib.Core.List.{[], _++_}
+use Prim.Native.Nat.{_-_, _≤_, zero-le}
 use native.Mathlib.Omega.{arith}
-use lib.ListN.{drop}
 use denote.Ref.{now}
-use Rattle.table.specs.Table.{records, nodeOf, nodeWidth}
-use Rattle.sheet.specs.Form.{bytesOf, nodeLine}
-use Rattle.sheet.proofs.Left.{Left, left-all, left-as, left-room, left-next, left-done}
-use Rattle.sheet.proofs.Sections.{lines-next, lines-done}
+use Rattle.table.specs.Table.{nodeOf, nodeWidth}
+use Rattle.sheet.specs.Form.{nodeLine}
+use Rattle.sheet.proofs.Left.{left-all, left-room, left-next}
+use Rattle.sheet.proofs.Sections.{LinesLeft, line-next, lines-done}
 use Rattle.sheet.proofs.write_block.write_nodes.Statement.{statement}
 use Rattle.sheet.proofs.write_block.write_nodes.Tie as tie
 
 abbrev Inv-loop : tie.InvT-loop
-Inv-loop section count text₀ at place₀ i₀ text place i =
-    (i ≤ count) × Left text₀ at (bytesOf nodeLine (records nodeOf nodeWidth count section)) text place (bytesOf nodeLine (drop i (records nodeOf nodeWidth count section)))
+Inv-loop section count text₀ at place₀ i₀ text place i = (i ≤ count) × LinesLeft nodeLine nodeOf nodeWidth count section text₀ at i text place
 
 abbrev μ-loop : tie.MeasureT-loop
 μ-loop section count text₀ at place₀ i₀ text place i = count - i
 
 loop-holds : tie.Need-loop-holds Inv-loop μ-loop
-loop-holds c =
-    let a = c .before .before .args in
-    (zero-le, left-all (now (a .text)) (a .at) (bytesOf nodeLine (records nodeOf nodeWidth (a .count) (now (a .section)))))
+loop-holds c = (zero-le, left-all _ _ _)
 
 node-at-requires : tie.Need-node-at-requires Inv-loop μ-loop
 node-at-requires c κs = tt
@@ -30,11 +25,9 @@ write-node-requires : tie.Need-write-node-requires Inv-loop μ-loop
 write-node-requires c κs =
     let a = c .before .before .before .before .before .before .args in
     let v = c .before .before .before .loop in
-    let all = bytesOf nodeLine (records nodeOf nodeWidth (a .count) (now (a .section))) in
-    let x = c .node-at .result in
-    let rest = bytesOf nodeLine (drop (v .i + 1) (records nodeOf nodeWidth (a .count) (now (a .section)))) in
-    let l = left-as (now (a .text)) (a .at) all (v .text) (v .place) (bytesOf nodeLine (drop (v .i) (records nodeOf nodeWidth (a .count) (now (a .section))))) (nodeLine x ++ rest) (lines-next nodeLine nodeOf nodeWidth (a .count) (now (a .section)) (v .i) (c .before .before .loop-test .taken) x (c .node-at .ensures)) (v .inv .1) in
-    left-room (now (a .text)) (a .at) all (v .text) (v .place) (nodeLine x) rest l (c .before .before .before .before .before .before .pre)
+    let x = c .node-at in
+    let l = line-next nodeLine nodeOf nodeWidth (a .count) (now (a .section)) (now (a .text)) (a .at) (v .i) (v .text) (v .place) (v .inv .1) (c .before .before .loop-test .taken) (x .result) (x .ensures) in
+    left-room _ _ _ _ _ (nodeLine (x .result)) _ l (c .before .before .before .before .before .before .pre)
 
 add-i : tie.Need-add-i Inv-loop μ-loop
 add-i c = omega arith
@@ -46,12 +39,9 @@ loop-again : tie.Need-loop-again Inv-loop μ-loop
 loop-again c =
     let a = c .before .before .before .before .before .before .before .before .before .args in
     let v = c .before .before .before .before .before .before .loop in
-    let all = bytesOf nodeLine (records nodeOf nodeWidth (a .count) (now (a .section))) in
-    let x = c .before .before .before .node-at .result in
-    let rest = bytesOf nodeLine (drop (v .i + 1) (records nodeOf nodeWidth (a .count) (now (a .section)))) in
-    let l = left-as (now (a .text)) (a .at) all (v .text) (v .place) (bytesOf nodeLine (drop (v .i) (records nodeOf nodeWidth (a .count) (now (a .section))))) (nodeLine x ++ rest) (lines-next nodeLine nodeOf nodeWidth (a .count) (now (a .section)) (v .i) (c .before .before .before .before .before .loop-test .taken) x (c .before .before .before .node-at .ensures)) (v .inv .1) in
-    let p = c .before .before .write-node in
-    (omega arith, left-next (now (a .text)) (a .at) all (v .text) (v .place) (nodeLine x) rest l (p .last .0) (p .result) (p .ensures))
+    let x = c .before .before .before .node-at in
+    let l = line-next nodeLine nodeOf nodeWidth (a .count) (now (a .section)) (now (a .text)) (a .at) (v .i) (v .text) (v .place) (v .inv .1) (c .before .before .before .before .before .loop-test .taken) (x .result) (x .ensures) in
+    (omega arith, left-next _ _ _ _ _ _ _ l _ _ (c .before .before .write-node .ensures))
 
 same-length : tie.Need-same-length Inv-loop μ-loop
 same-length c = c .before .loop .inv .1 .size
@@ -60,9 +50,7 @@ returns : tie.Need-returns Inv-loop μ-loop
 returns c =
     let a = c .before .before .before .before .args in
     let v = c .before .loop in
-    let all = bytesOf nodeLine (records nodeOf nodeWidth (a .count) (now (a .section))) in
-    left-done (now (a .text)) (a .at) all (v .text) (v .place)
-    (left-as (now (a .text)) (a .at) all (v .text) (v .place) (bytesOf nodeLine (drop (v .i) (records nodeOf nodeWidth (a .count) (now (a .section))))) [] (lines-done nodeLine nodeOf nodeWidth (a .count) (now (a .section)) (v .i) (c .loop-test .left)) (v .inv .1))
+    lines-done nodeLine nodeOf nodeWidth (a .count) (now (a .section)) (now (a .text)) (a .at) (v .i) (v .text) (v .place) (v .inv .1) (c .loop-test .left)
 
 pub write-nodes-spec : {M : Type 1} → statement M
 write-nodes-spec =
