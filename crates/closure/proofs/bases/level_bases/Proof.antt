@@ -96,7 +96,7 @@ loop-again c =
     let before : (k : ℕ) → k < i → getD at k 0 ≡ levelBase T k = λ k h. getD-set-other (loop .at) i k (loop .total) 0 (λ e. omega arith) ∙ loop .inv .4 k h in (
       (omega arith, omega (arith, small c), loop .inv .0 .2, loop .inv .0 .3, loop .inv .0 .4),
       loop .inv .1,
-      length-set (loop .at) i (loop .total) ∙ loop .inv .2,
+      length-set (loop .at) i _ ∙ loop .inv .2,
       omega (arith, size c, loop .inv .3, base-on T i),
       below-more _ i before here,
     )
