@@ -75,22 +75,6 @@ module _ (t : ℕ) where
   pub kept-slice-aggregate-reach : kept-lts.Need-slice-aggregate-reach (kept-calls t) (kept-at t) kept.Post
   kept-slice-aggregate-reach c = search needs
 
-  -- the rows with the step are as large
-  pub kept-reach-requires : kept-lts.Need-reach-requires (kept-calls t) (kept-at t) kept.Post
-  kept-reach-requires c κs =
-      let known = c .before .before .before .before .before .before .before .before in
-      let s = known .before .before .before .before .before in
-      let T = tableOf (now (s .args .table)) in
-      let h = s .pre .1 .0 in
-      let inside = s .pre .1 .1 .1 .2 .stands .inside in (
-        h .setting,
-        (
-          subst (λ r. Sized T (memory r (now (s .args .words)))) (sym (c .before .before .before .with-step .ensures))
-              (chosen-sized T (kept-table s) (s .args .rows) (now (s .args .words)) (kept-sized known) true (s .args .j) inside),
-          h .list-size,
-        ),
-      )
-
   -- what the closure with the step comes to
   kept-comes : (c : kept-lts.After-reach (kept-calls t) (kept-at t) kept.Post)
       → let more = c .before .before .before .before .before .before in
@@ -107,6 +91,22 @@ module _ (t : ℕ) where
       let between = chosen-between T (kept-table s) (s .args .rows) (now (s .args .words)) (kept-sized known) true j (g .stands .inside) P (g .between) in
       c .reach .ensures .comes (pos j ∷ P) (try-fine T (kept-table s) (s .args .count) j (s .args .rows) P m (g .stands) true)
       (subst (λ r. Between T (stepLiterals (pos j ∷ P)) (memory r (now (s .args .words)))) (sym (c .before .before .before .before .with-step .ensures)) between)
+
+  -- the rows with the step are as large
+  pub kept-reach-requires : kept-lts.Need-reach-requires (kept-calls t) (kept-at t) kept.Post
+  kept-reach-requires c κs =
+      let known = c .before .before .before .before .before .before .before .before in
+      let s = known .before .before .before .before .before in
+      let T = tableOf (now (s .args .table)) in
+      let h = s .pre .1 .0 in
+      let inside = s .pre .1 .1 .1 .2 .stands .inside in (
+        h .setting,
+        (
+          subst (λ r. Sized T (memory r (now (s .args .words)))) (sym (c .before .before .before .with-step .ensures))
+              (chosen-sized T (kept-table s) (s .args .rows) (now (s .args .words)) (kept-sized known) true (s .args .j) inside),
+          h .list-size,
+        ),
+      )
 
   pub kept-enum-known-outcome : kept-lts.Need-enum-known-outcome (kept-calls t) (kept-at t) kept.Post
   kept-enum-known-outcome c = search needs
@@ -190,6 +190,17 @@ module _ (t : ℕ) where
       kept-stays (tableOf (now (s .args .table))) (s .args .count) (s .args .j) (s .args .rows) P m (g .stands) (now (s .args .list)) _ _ (kept-first (c .before) P m g)
       (not-none (c .before .match2 .first) (c .match3 .keys2))
 
+  pub kept-returns-3 : kept-lts.Need-returns-3 (kept-calls t) (kept-at t) kept.Post
+  kept-returns-3 c P m g =
+      let struck = c .before .before .before .before in
+      let first = struck .before .before .before .before in
+      let came = first .before .before in
+      let s = came .before .before .before .before .before .before .before .before .before .before .before .before .before .before .before .before .before .before .before .before in
+      let T = tableOf (now (s .args .table)) in
+      kept-else T (s .args .count) (s .args .j) (s .args .rows) P m (g .stands) (now (s .args .list)) (came .match2 .list) _ (first .first .given .0 .0) _ _
+      (kept-first came P m g) (first .first .given .1)
+      (struck .struck .ensures P m (kept-stands came P m g))
+
   pub kept-struck-requires : kept-lts.Need-struck-requires (kept-calls t) (kept-at t) kept.Post
   kept-struck-requires c κs =
       let first = c .before .before .before in
@@ -219,14 +230,3 @@ module _ (t : ℕ) where
   kept-same-length-4 c =
       let struck = c .before .before .before .before in
       struck .struck .kept .1 .1 .1 .1 .1 .1 .1 .1 .0 ∙ kept-lengths (struck .before .before .before .before .before .before) .1
-
-  pub kept-returns-3 : kept-lts.Need-returns-3 (kept-calls t) (kept-at t) kept.Post
-  kept-returns-3 c P m g =
-      let struck = c .before .before .before .before in
-      let first = struck .before .before .before .before in
-      let came = first .before .before in
-      let s = came .before .before .before .before .before .before .before .before .before .before .before .before .before .before .before .before .before .before .before .before in
-      let T = tableOf (now (s .args .table)) in
-      kept-else T (s .args .count) (s .args .j) (s .args .rows) P m (g .stands) (now (s .args .list)) (came .match2 .list) _ (first .first .given .0 .0) _ _
-      (kept-first came P m g) (first .first .given .1)
-      (struck .struck .ensures P m (kept-stands came P m g))
