@@ -42,6 +42,11 @@ line-next c =
     let room = c .before .before .before .before .before .before .pre .0 in
     left-as _ _ _ _ _ _ _ (kept-next (a .count) (now (a .section)) (now (a .list)) (v .i) h (omega arith) (c .step-at .result) (c .step-at .ensures)) (v .inv .1)
 
+loop-again : tie.Need-loop-again Inv-loop μ-loop
+loop-again c =
+    let p = c .before .before .write-triple in
+    (omega arith, left-next _ _ _ _ _ _ _ (line-next (c .before .before .before .before .before)) _ _ (p .ensures))
+
 write-triple-requires : tie.Need-write-triple-requires Inv-loop μ-loop
 write-triple-requires c κs =
     let k = c .before .before in
@@ -53,11 +58,6 @@ add-i c = omega arith
 
 loop-less : tie.Need-loop-less Inv-loop μ-loop
 loop-less c = omega arith
-
-loop-again : tie.Need-loop-again Inv-loop μ-loop
-loop-again c =
-    let p = c .before .before .write-triple in
-    (omega arith, left-next _ _ _ _ _ _ _ (line-next (c .before .before .before .before .before)) _ _ (p .ensures))
 
 same-length : tie.Need-same-length Inv-loop μ-loop
 same-length c = c .before .loop .inv .1 .size
