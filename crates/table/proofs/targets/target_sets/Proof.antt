@@ -40,6 +40,19 @@ loop-holds c =
 step-at-requires : tie.Need-step-at-requires Inv-loop μ-loop
 step-at-requires c κs = search needs
 
+loop-again : tie.Need-loop-again Inv-loop μ-loop
+loop-again c =
+    let start = c .before .before .before .before .before .before .before in
+    let loop = c .before .before .before .loop in
+    let inside : loop .j < length (tableOf (now (start .args .table)) .steps) = omega arith in
+    let r = read-step (now (start .args .table)) (start .pre) (loop .j) inside _ (loop .inv .2) (c .before .step-at .result) (c .before .step-at .ensures) in
+    let x = c .before .step-at .result in
+    let xs = tableOf (now (start .args .table)) .steps in
+    let more : take (loop .j + 1) xs ≡ take (loop .j) xs ++ (x ∷ []) =
+    rw (add-one (loop .j), take-suc xs (loop .j) zeroStep, r .here) in
+    let rows = rows-more (loop .rows) (take (loop .j) xs) (loop .inv .3) x (r .from-below) (r .to-below) in
+    (omega arith, loop .inv .1, loop .inv .2, rw (more, c .insert .ensures) rows)
+
 -- a step that is read starts at one of the 32 states
 array-read-row : tie.Need-array-read-row Inv-loop μ-loop
 array-read-row c =
@@ -65,19 +78,6 @@ add-j c = search needs
 
 loop-less : tie.Need-loop-less Inv-loop μ-loop
 loop-less c = omega arith
-
-loop-again : tie.Need-loop-again Inv-loop μ-loop
-loop-again c =
-    let start = c .before .before .before .before .before .before .before in
-    let loop = c .before .before .before .loop in
-    let inside : loop .j < length (tableOf (now (start .args .table)) .steps) = omega arith in
-    let r = read-step (now (start .args .table)) (start .pre) (loop .j) inside _ (loop .inv .2) (c .before .step-at .result) (c .before .step-at .ensures) in
-    let x = c .before .step-at .result in
-    let xs = tableOf (now (start .args .table)) .steps in
-    let more : take (loop .j + 1) xs ≡ take (loop .j) xs ++ (x ∷ []) =
-    rw (add-one (loop .j), take-suc xs (loop .j) zeroStep, r .here) in
-    let rows = rows-more (loop .rows) (take (loop .j) xs) (loop .inv .3) x (r .from-below) (r .to-below) in
-    (omega arith, loop .inv .1, loop .inv .2, rw (more, c .insert .ensures) rows)
 
 returns : tie.Need-returns Inv-loop μ-loop
 returns c =
