@@ -12,18 +12,18 @@ ghost use Rattle.table.specs.Table.{tableOf, statesPart};
 ghost use Rattle.ctl.specs.Rule.{operatorOf};
 ghost use Rattle.label.specs.Words.{nodeWord, passWords};
 
-// The set of a node, from the sets of the nodes before it.
+// The set of a node, from the sets of the nodes before it. The arrays are lent, not copied for each node.
 fn node_states(
     x: Node,
-    words: [u32; 32],
-    rows: [u32; 32],
+    words: &[u32; 32],
+    rows: &[u32; 32],
     kept: u32,
     n: usize,
     states: &[u8],
 ) -> u32
     requires { ⌜ n ≤ 32 ⌝ }
     requires { ⌜ (x .a < 32) × (x .b < 32) ⌝ }
-    ensures { λ r. ⌜ r ≡ nodeWord rows kept n (now (states .entry)) words (operatorOf x) ⌝ }
+    ensures { λ r. ⌜ r ≡ nodeWord (now (rows .entry)) kept n (now (states .entry)) (now (words .entry)) (operatorOf x) ⌝ }
 {
     let kind = x.kind;
     let a = x.a;
@@ -56,7 +56,7 @@ pub fn label_pass(words: [u32; 32], table: &[u8], rows: [u32; 32], kept: u32) ->
     let mut next = words;
     let mut i = 0;
     while i < f {
-        next[i] = node_states(table::node_at(nodes, i), next, rows, kept, n, states);
+        next[i] = node_states(table::node_at(nodes, i), &next, &rows, kept, n, states);
         i += 1;
     }
     next

@@ -24,9 +24,9 @@ pub fn row_next(q: Quantifier, row: u32, set: u32) -> bool
     }
 }
 
-pub fn next_states(q: Quantifier, rows: [u32; 32], n: usize, set: u32) -> u32
+pub fn next_states(q: Quantifier, rows: &[u32; 32], n: usize, set: u32) -> u32
     requires { ⌜ n ≤ 32 ⌝ }
-    ensures { λ r. ⌜ r ≡ nextWord (quantifierOf q) rows n set ⌝ }
+    ensures { λ r. ⌜ r ≡ nextWord (quantifierOf q) (now (rows .entry)) n set ⌝ }
 {
     let mut states = 0u32;
     let mut s = 0;
@@ -38,9 +38,9 @@ pub fn next_states(q: Quantifier, rows: [u32; 32], n: usize, set: u32) -> u32
 }
 
 // Level n of release, from the set of b; a level that changes nothing is the last that is needed.
-pub fn release_states(q: Quantifier, rows: [u32; 32], n: usize, a: u32, b: u32) -> u32
+pub fn release_states(q: Quantifier, rows: &[u32; 32], n: usize, a: u32, b: u32) -> u32
     requires { ⌜ n ≤ 32 ⌝ }
-    ensures { λ r. ⌜ r ≡ levelsWord (quantifierOf q) rows n a b n ⌝ }
+    ensures { λ r. ⌜ r ≡ levelsWord (quantifierOf q) (now (rows .entry)) n a b n ⌝ }
 {
     let mut level = b;
     let mut m = 0;

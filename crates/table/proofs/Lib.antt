@@ -1,5 +1,6 @@
 pub mod Bools
 pub mod Numbers
+mod Only
 pub mod All
 pub mod Verdicts
 pub mod Buffer

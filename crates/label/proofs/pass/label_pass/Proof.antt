@@ -41,14 +41,14 @@ one table rows kept n i h x e words w v =
     (set words i ((ap (λ (y : Node). nodeWord rows kept n (statesPart table) words (operatorOf y)) (sym e) ∙ sym v) j)))
 
 abbrev Inv-loop : tie.InvT-loop
-Inv-loop table rows kept n f states nodes next₀ i₀ next i =
+Inv-loop table kept rows n f states nodes next₀ i₀ next i =
     (i ≤ f)
     × (length next ≡ 32)
     × (passWords rows kept (length (tableOf table .states)) (statesPart table) 0 (tableOf table .nodes) next₀
     ≡ passWords rows kept (length (tableOf table .states)) (statesPart table) i (drop i (tableOf table .nodes)) next)
 
 abbrev μ-loop : tie.MeasureT-loop
-μ-loop table rows kept n f states nodes next₀ i₀ next i = f - i
+μ-loop table kept rows n f states nodes next₀ i₀ next i = f - i
 
 counts-of-requires : tie.Need-counts-of-requires Inv-loop μ-loop
 counts-of-requires c κs = search needs
@@ -67,21 +67,21 @@ node-at-requires c κs = search needs
 
 node-states-requires : tie.Need-node-states-requires Inv-loop μ-loop
 node-states-requires c κs =
-    let l = now (c .before .before .before .before .before .before .before .args .table) in
-    let k = c .before .before .before .before .before .counts-of .ensures in
-    let q = counted l (c .before .before .before .before .before .before .before .pre .0) (c .before .before .before .before .before .counts-of .result) k in
-    let h : c .before .before .loop .i < countsOf l .nodes = omega (arith, ap (λ (y : Counts). y .nodes) k) in
-    let r = read-node l (c .before .before .before .before .before .before .before .pre .0) (c .before .before .loop .i) h (now (c .before .before .before .nodes-part .result)) (c .before .before .before .nodes-part .ensures) (c .node-at .result) (c .node-at .ensures) in
+    let l = now (c .before .before .before .before .before .before .before .before .before .args .table) in
+    let k = c .before .before .before .before .before .before .before .counts-of .ensures in
+    let q = counted l (c .before .before .before .before .before .before .before .before .before .pre .0) (c .before .before .before .before .before .before .before .counts-of .result) k in
+    let h : c .before .before .before .before .loop .i < countsOf l .nodes = omega (arith, ap (λ (y : Counts). y .nodes) k) in
+    let r = read-node l (c .before .before .before .before .before .before .before .before .before .pre .0) (c .before .before .before .before .loop .i) h (now (c .before .before .before .before .before .nodes-part .result)) (c .before .before .before .before .before .nodes-part .ensures) (c .before .before .node-at .result) (c .before .before .node-at .ensures) in
     (q .2, (r .a-below, r .b-below))
 
 mul-next : tie.Need-mul-next Inv-loop μ-loop
 mul-next c =
-    let q = counted (now (c .before .before .before .before .before .before .before .before .args .table)) (c .before .before .before .before .before .before .before .before .pre .0) (c .before .before .before .before .before .before .counts-of .result) (c .before .before .before .before .before .before .counts-of .ensures) in
+    let q = counted (now (c .before .before .before .before .before .before .before .before .before .before .args .table)) (c .before .before .before .before .before .before .before .before .before .before .pre .0) (c .before .before .before .before .before .before .before .before .counts-of .result) (c .before .before .before .before .before .before .before .before .counts-of .ensures) in
     omega (arith, q .3)
 
 array-write-next : tie.Need-array-write-next Inv-loop μ-loop
 array-write-next c =
-    let q = counted (now (c .before .before .before .before .before .before .before .before .args .table)) (c .before .before .before .before .before .before .before .before .pre .0) (c .before .before .before .before .before .before .counts-of .result) (c .before .before .before .before .before .before .counts-of .ensures) in
+    let q = counted (now (c .before .before .before .before .before .before .before .before .before .before .args .table)) (c .before .before .before .before .before .before .before .before .before .before .pre .0) (c .before .before .before .before .before .before .before .before .counts-of .result) (c .before .before .before .before .before .before .before .before .counts-of .ensures) in
     omega (arith, q .3)
 
 add-i : tie.Need-add-i Inv-loop μ-loop
@@ -92,21 +92,21 @@ loop-less c = omega arith
 
 loop-again : tie.Need-loop-again Inv-loop μ-loop
 loop-again c =
-    let a = c .before .before .before .before .before .before .before .before .args in
+    let a = c .before .before .before .before .before .before .before .before .before .before .args in
     let l = now (a .table) in
-    let k = c .before .before .before .before .before .before .counts-of .ensures in
-    let n = c .before .before .before .before .before .before .counts-of .result .states in
-    let q = counted l (c .before .before .before .before .before .before .before .before .pre .0) (c .before .before .before .before .before .before .counts-of .result) k in
-    let i = c .before .before .before .loop .i in
-    let words = c .before .before .before .loop .next in
+    let k = c .before .before .before .before .before .before .before .before .counts-of .ensures in
+    let n = c .before .before .before .before .before .before .before .before .counts-of .result .states in
+    let q = counted l (c .before .before .before .before .before .before .before .before .before .before .pre .0) (c .before .before .before .before .before .before .before .before .counts-of .result) k in
+    let i = c .before .before .before .before .before .loop .i in
+    let words = c .before .before .before .before .before .loop .next in
     let h : i < countsOf l .nodes = omega (arith, ap (λ (y : Counts). y .nodes) k) in
-    let x = c .before .node-at .result in
-    let here : x ≡ nodeOf (drop (nodeWidth * i) (nodesPart l)) = c .before .node-at .ensures ∙ ap (λ (s : List ℕ). nodeOf (drop (nodeWidth * i) s)) (c .before .before .before .before .nodes-part .ensures) in
-    let w : c .node-states .result ≡ nodeWord (a .rows) (a .kept) (length (tableOf l .states)) (statesPart l) words (operatorOf x) =
-    c .node-states .ensures ∙ (λ j. nodeWord (a .rows) (a .kept) (q .0 j) (c .before .before .before .before .before .states-part .ensures j) words (operatorOf x)) in (
+    let x = c .before .before .before .node-at .result in
+    let here : x ≡ nodeOf (drop (nodeWidth * i) (nodesPart l)) = c .before .before .before .node-at .ensures ∙ ap (λ (s : List ℕ). nodeOf (drop (nodeWidth * i) s)) (c .before .before .before .before .before .before .nodes-part .ensures) in
+    let w : c .node-states .result ≡ nodeWord (a .t3) (a .kept) (length (tableOf l .states)) (statesPart l) words (operatorOf x) =
+    c .node-states .ensures ∙ (λ j. nodeWord (a .t3) (a .kept) (q .0 j) (c .before .before .before .before .before .before .before .states-part .ensures j) words (operatorOf x)) in (
       omega arith,
-      length-set words i (c .node-states .result) ∙ c .before .before .before .loop .inv .1,
-      c .before .before .before .loop .inv .2 ∙ one l (a .rows) (a .kept) (length (tableOf l .states)) i h x here words (c .node-states .result) w,
+      length-set words i (c .node-states .result) ∙ c .before .before .before .before .before .loop .inv .1,
+      c .before .before .before .before .before .loop .inv .2 ∙ one l (a .t3) (a .kept) (length (tableOf l .states)) i h x here words (c .node-states .result) w,
     )
 
 returns : tie.Need-returns Inv-loop μ-loop
@@ -116,7 +116,7 @@ returns c =
     let l = now (a .table) in
     let i = c .before .loop .i in
     let done = records-done nodeOf nodeWidth (countsOf l .nodes) (nodesPart l) i (omega (arith, ap (λ (y : Counts). y .nodes) (c .before .before .before .before .counts-of .ensures))) in
-    sym (c .before .loop .inv .2 ∙ ap (λ (xs : List Node). passWords (a .rows) (a .kept) (length (tableOf l .states)) (statesPart l) i xs (c .before .loop .next)) done)
+    sym (c .before .loop .inv .2 ∙ ap (λ (xs : List Node). passWords (a .t3) (a .kept) (length (tableOf l .states)) (statesPart l) i xs (c .before .loop .next)) done)
 
 pub label-pass-spec : {M : Type 1} → statement M
 label-pass-spec =

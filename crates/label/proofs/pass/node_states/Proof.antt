@@ -14,38 +14,38 @@ labelled-states-requires c κs = search needs
 mul-result : tie.Need-mul-result
 mul-result c = search needs
 
-array-read-result : tie.Need-array-read-result
-array-read-result c = search needs
+element-copy-out-result : tie.Need-element-copy-out-result
+element-copy-out-result c = search needs
 
 mul-result-2 : tie.Need-mul-result-2
 mul-result-2 c = search needs
 
-array-read-result-2 : tie.Need-array-read-result-2
-array-read-result-2 c = search needs
+element-copy-out-result-2 : tie.Need-element-copy-out-result-2
+element-copy-out-result-2 c = search needs
 
 mul-result-3 : tie.Need-mul-result-3
 mul-result-3 c = search needs
 
-array-read-result-3 : tie.Need-array-read-result-3
-array-read-result-3 c = search needs
+element-copy-out-result-3 : tie.Need-element-copy-out-result-3
+element-copy-out-result-3 c = search needs
 
 mul-result-4 : tie.Need-mul-result-4
 mul-result-4 c = search needs
 
-array-read-result-4 : tie.Need-array-read-result-4
-array-read-result-4 c = search needs
+element-copy-out-result-4 : tie.Need-element-copy-out-result-4
+element-copy-out-result-4 c = search needs
 
 mul-result-5 : tie.Need-mul-result-5
 mul-result-5 c = search needs
 
-array-read-result-5 : tie.Need-array-read-result-5
-array-read-result-5 c = search needs
+element-copy-out-result-5 : tie.Need-element-copy-out-result-5
+element-copy-out-result-5 c = search needs
 
 mul-next-states : tie.Need-mul-next-states
 mul-next-states c = search needs
 
-array-read-next-states : tie.Need-array-read-next-states
-array-read-next-states c = search needs
+element-copy-out-next-states : tie.Need-element-copy-out-next-states
+element-copy-out-next-states c = search needs
 
 next-states-requires : tie.Need-next-states-requires
 next-states-requires c κs = search needs
@@ -53,8 +53,8 @@ next-states-requires c κs = search needs
 mul-next-states-2 : tie.Need-mul-next-states-2
 mul-next-states-2 c = search needs
 
-array-read-next-states-2 : tie.Need-array-read-next-states-2
-array-read-next-states-2 c = search needs
+element-copy-out-next-states-2 : tie.Need-element-copy-out-next-states-2
+element-copy-out-next-states-2 c = search needs
 
 next-states-requires-2 : tie.Need-next-states-requires-2
 next-states-requires-2 c κs = search needs
@@ -62,14 +62,14 @@ next-states-requires-2 c κs = search needs
 mul-release-states : tie.Need-mul-release-states
 mul-release-states c = search needs
 
-array-read-release-states : tie.Need-array-read-release-states
-array-read-release-states c = search needs
+element-copy-out-release-states : tie.Need-element-copy-out-release-states
+element-copy-out-release-states c = search needs
 
 mul-release-states-2 : tie.Need-mul-release-states-2
 mul-release-states-2 c = search needs
 
-array-read-release-states-2 : tie.Need-array-read-release-states-2
-array-read-release-states-2 c = search needs
+element-copy-out-release-states-2 : tie.Need-element-copy-out-release-states-2
+element-copy-out-release-states-2 c = search needs
 
 release-states-requires : tie.Need-release-states-requires
 release-states-requires c κs = search needs
@@ -77,14 +77,14 @@ release-states-requires c κs = search needs
 mul-release-states-3 : tie.Need-mul-release-states-3
 mul-release-states-3 c = search needs
 
-array-read-release-states-3 : tie.Need-array-read-release-states-3
-array-read-release-states-3 c = search needs
+element-copy-out-release-states-3 : tie.Need-element-copy-out-release-states-3
+element-copy-out-release-states-3 c = search needs
 
 mul-release-states-4 : tie.Need-mul-release-states-4
 mul-release-states-4 c = search needs
 
-array-read-release-states-4 : tie.Need-array-read-release-states-4
-array-read-release-states-4 c = search needs
+element-copy-out-release-states-4 : tie.Need-element-copy-out-release-states-4
+element-copy-out-release-states-4 c = search needs
 
 release-states-requires-2 : tie.Need-release-states-requires-2
 release-states-requires-2 c κs = search needs
@@ -93,62 +93,62 @@ returns : tie.Need-returns
 unfolding nodeWord
 returns c =
     let a = c .before .before .args in
-    sym (ap (nodeWord (a .rows) (a .kept) (a .n) (now (a .states)) (a .t2)) (of-kind (a .x) 1 (c .match .keys1)))
+    sym (ap (nodeWord (now (a .rows)) (a .kept) (a .n) (now (a .states)) (now (a .words))) (of-kind (a .x) 1 (c .match .keys1)))
 
 returns-2 : tie.Need-returns-2
 unfolding nodeWord
 returns-2 c =
     let a = c .before .before .before .args in
-    ap (bitAnd (a .kept)) (c .labelled-states .ensures) ∙ sym (ap (nodeWord (a .rows) (a .kept) (a .n) (now (a .states)) (a .t2)) (of-kind (a .x) 2 (c .before .match .keys2)))
+    ap (bitAnd (a .kept)) (c .labelled-states .ensures) ∙ sym (ap (nodeWord (now (a .rows)) (a .kept) (a .n) (now (a .states)) (now (a .words))) (of-kind (a .x) 2 (c .before .match .keys2)))
 
 returns-3 : tie.Need-returns-3
 unfolding nodeWord
 returns-3 c =
-    let a = c .before .before .args in
-    sym (ap (nodeWord (a .rows) (a .kept) (a .n) (now (a .states)) (a .t2)) (of-kind (a .x) 3 (c .match .keys3)))
+    let a = c .before .before .before .args in
+    sym (ap (nodeWord (now (a .rows)) (a .kept) (a .n) (now (a .states)) (now (a .words))) (of-kind (a .x) 3 (c .before .match .keys3)))
 
 returns-4 : tie.Need-returns-4
 unfolding nodeWord
 returns-4 c =
-    let a = c .before .before .args in
-    sym (ap (nodeWord (a .rows) (a .kept) (a .n) (now (a .states)) (a .t2)) (of-kind (a .x) 4 (c .match .keys4)))
+    let a = c .before .before .before .before .args in
+    sym (ap (nodeWord (now (a .rows)) (a .kept) (a .n) (now (a .states)) (now (a .words))) (of-kind (a .x) 4 (c .before .before .match .keys4)))
 
 returns-5 : tie.Need-returns-5
 unfolding nodeWord
 returns-5 c =
-    let a = c .before .before .args in
-    sym (ap (nodeWord (a .rows) (a .kept) (a .n) (now (a .states)) (a .t2)) (of-kind (a .x) 5 (c .match .keys5)))
+    let a = c .before .before .before .before .args in
+    sym (ap (nodeWord (now (a .rows)) (a .kept) (a .n) (now (a .states)) (now (a .words))) (of-kind (a .x) 5 (c .before .before .match .keys5)))
 
 returns-6 : tie.Need-returns-6
 unfolding nodeWord
 returns-6 c =
-    let a = c .before .before .before .args in
-    c .next-states .ensures ∙ sym (ap (nodeWord (a .rows) (a .kept) (a .n) (now (a .states)) (a .t2)) (of-kind (a .x) 6 (c .before .match .keys6)))
+    let a = c .before .before .before .before .args in
+    c .next-states .ensures ∙ sym (ap (nodeWord (now (a .rows)) (a .kept) (a .n) (now (a .states)) (now (a .words))) (of-kind (a .x) 6 (c .before .before .match .keys6)))
 
 returns-7 : tie.Need-returns-7
 unfolding nodeWord
 returns-7 c =
-    let a = c .before .before .before .args in
-    c .next-states2 .ensures ∙ sym (ap (nodeWord (a .rows) (a .kept) (a .n) (now (a .states)) (a .t2)) (of-kind (a .x) 7 (c .before .match .keys7)))
+    let a = c .before .before .before .before .args in
+    c .next-states2 .ensures ∙ sym (ap (nodeWord (now (a .rows)) (a .kept) (a .n) (now (a .states)) (now (a .words))) (of-kind (a .x) 7 (c .before .before .match .keys7)))
 
 returns-8 : tie.Need-returns-8
 unfolding nodeWord
 returns-8 c =
-    let a = c .before .before .before .args in
-    c .release-states .ensures ∙ sym (ap (nodeWord (a .rows) (a .kept) (a .n) (now (a .states)) (a .t2)) (of-kind (a .x) 8 (c .before .match .keys8)))
+    let a = c .before .before .before .before .before .args in
+    c .release-states .ensures ∙ sym (ap (nodeWord (now (a .rows)) (a .kept) (a .n) (now (a .states)) (now (a .words))) (of-kind (a .x) 8 (c .before .before .before .match .keys8)))
 
 returns-9 : tie.Need-returns-9
 unfolding nodeWord
 returns-9 c =
-    let a = c .before .before .before .args in
-    c .release-states2 .ensures ∙ sym (ap (nodeWord (a .rows) (a .kept) (a .n) (now (a .states)) (a .t2)) (of-kind (a .x) 9 (c .before .match .keys9)))
+    let a = c .before .before .before .before .before .args in
+    c .release-states2 .ensures ∙ sym (ap (nodeWord (now (a .rows)) (a .kept) (a .n) (now (a .states)) (now (a .words))) (of-kind (a .x) 9 (c .before .before .before .match .keys9)))
 
 returns-10 : tie.Need-returns-10
 unfolding nodeWord
 returns-10 c =
     let a = c .before .before .args in
     let r = c .match .rest in
-    sym (ap (nodeWord (a .rows) (a .kept) (a .n) (now (a .states)) (a .t2)) (no-kind (a .x) (r .0 .0 .0 .0 .0 .0 .0 .0 .1) (r .0 .0 .0 .0 .0 .0 .0 .1) (r .0 .0 .0 .0 .0 .0 .1) (r .0 .0 .0 .0 .0 .1) (r .0 .0 .0 .0 .1) (r .0 .0 .0 .1) (r .0 .0 .1) (r .0 .1) (r .1)))
+    sym (ap (nodeWord (now (a .rows)) (a .kept) (a .n) (now (a .states)) (now (a .words))) (no-kind (a .x) (r .0 .0 .0 .0 .0 .0 .0 .0 .1) (r .0 .0 .0 .0 .0 .0 .0 .1) (r .0 .0 .0 .0 .0 .0 .1) (r .0 .0 .0 .0 .0 .1) (r .0 .0 .0 .0 .1) (r .0 .0 .0 .1) (r .0 .0 .1) (r .0 .1) (r .1)))
 
 pub node-states-spec : {M : Type 1} → statement M
 node-states-spec =
@@ -156,30 +156,30 @@ node-states-spec =
     (tie.spec
     labelled-states-requires
     mul-result
-    array-read-result
+    element-copy-out-result
     mul-result-2
-    array-read-result-2
+    element-copy-out-result-2
     mul-result-3
-    array-read-result-3
+    element-copy-out-result-3
     mul-result-4
-    array-read-result-4
+    element-copy-out-result-4
     mul-result-5
-    array-read-result-5
+    element-copy-out-result-5
     mul-next-states
-    array-read-next-states
+    element-copy-out-next-states
     next-states-requires
     mul-next-states-2
-    array-read-next-states-2
+    element-copy-out-next-states-2
     next-states-requires-2
     mul-release-states
-    array-read-release-states
+    element-copy-out-release-states
     mul-release-states-2
-    array-read-release-states-2
+    element-copy-out-release-states-2
     release-states-requires
     mul-release-states-3
-    array-read-release-states-3
+    element-copy-out-release-states-3
     mul-release-states-4
-    array-read-release-states-4
+    element-copy-out-release-states-4
     release-states-requires-2
     returns
     returns-2

@@ -4,6 +4,7 @@ use mathlib.Core.Path.{_≡_, refl, ap, _∙_}
 use native.Mathlib.Omega.{arith}
 use borrow.Author.Needs.{needs}
 use lib.ListN.{getD}
+use denote.Ref.{now}
 use Rattle.sets.specs.Member.{setOf}
 use Rattle.sets.proofs.Collect.{collect}
 use Rattle.label.specs.Words.{quantifierOf, rowNext, nextWord}
@@ -11,10 +12,10 @@ use Rattle.label.proofs.release.next_states.Statement.{statement}
 use Rattle.label.proofs.release.next_states.Tie as tie
 
 abbrev Inv-loop : tie.InvT-loop
-Inv-loop q n set rows states₀ s₀ states s = (s ≤ n) × (states ≡ setOf s (λ t. rowNext (quantifierOf q) (getD rows t 0) set))
+Inv-loop q rows n set states₀ s₀ states s = (s ≤ n) × (states ≡ setOf s (λ t. rowNext (quantifierOf q) (getD rows t 0) set))
 
 abbrev μ-loop : tie.MeasureT-loop
-μ-loop q n set rows states₀ s₀ states s = n - s
+μ-loop q rows n set states₀ s₀ states s = n - s
 
 loop-holds : tie.Need-loop-holds Inv-loop μ-loop
 unfolding setOf
@@ -23,8 +24,8 @@ loop-holds c = (zero-le, refl)
 mul-row-next : tie.Need-mul-row-next Inv-loop μ-loop
 mul-row-next c = omega arith
 
-array-read-row-next : tie.Need-array-read-row-next Inv-loop μ-loop
-array-read-row-next c = omega arith
+element-copy-out-row-next : tie.Need-element-copy-out-row-next Inv-loop μ-loop
+element-copy-out-row-next c = omega arith
 
 row-next-requires : tie.Need-row-next-requires Inv-loop μ-loop
 row-next-requires c κs = search needs
@@ -40,14 +41,15 @@ loop-less c = omega arith
 
 loop-again : tie.Need-loop-again Inv-loop μ-loop
 loop-again c =
-    let a = c .before .before .before .before .args in
-    (omega arith, c .insert-if .ensures ∙ collect (c .before .before .before .loop .s) (λ t. rowNext (quantifierOf (a .q)) (getD (a .t2) t 0) (a .set)) (c .before .before .before .loop .states) (c .before .row-next .result) (omega arith) (c .before .before .before .loop .inv .1) (c .before .row-next .ensures))
+    let a = c .before .before .before .before .before .args in
+    let loop = c .before .before .before .before .loop in
+    (omega arith, c .insert-if .ensures ∙ collect (loop .s) (λ t. rowNext (quantifierOf (a .q)) (getD (now (a .rows)) t 0) (a .set)) (loop .states) (c .before .row-next .result) (omega arith) (loop .inv .1) (c .before .row-next .ensures))
 
 returns : tie.Need-returns Inv-loop μ-loop
 unfolding nextWord
 returns c =
     let a = c .before .before .args in
-    c .before .loop .inv .1 ∙ ap (λ (k : ℕ). setOf k (λ t. rowNext (quantifierOf (a .q)) (getD (a .t2) t 0) (a .set))) (omega arith)
+    c .before .loop .inv .1 ∙ ap (λ (k : ℕ). setOf k (λ t. rowNext (quantifierOf (a .q)) (getD (now (a .rows)) t 0) (a .set))) (omega arith)
 
 pub next-states-spec : {M : Type 1} → statement M
 next-states-spec =
@@ -57,7 +59,7 @@ next-states-spec =
     μ-loop
     loop-holds
     mul-row-next
-    array-read-row-next
+    element-copy-out-row-next
     row-next-requires
     insert-if-requires
     add-s

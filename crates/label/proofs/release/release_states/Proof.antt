@@ -4,6 +4,7 @@ use mathlib.Core.Path.{_≡_, refl, sym, ap, _∙_}
 use native.Mathlib.Omega.{arith}
 use borrow.Author.Needs.{needs}
 use lib.Bits.{bitAnd, bitOr}
+use denote.Ref.{now}
 use native.Mathlib.Numerals.{add-one}
 use Rattle.label.specs.Words.{quantifierOf, levelWord, levelsWord}
 use Rattle.label.proofs.Levels.{levels-stay}
@@ -29,12 +30,12 @@ returns c =
     let q = quantifierOf (a .q) in
     let m = c .before .before .before .loop .m in
     let here = c .before .before .before .loop .inv .1 in
-    let stays : levelWord q (a .rows) (a .n) (a .a) (a .b) (levelsWord q (a .rows) (a .n) (a .a) (a .b) m) ≡ levelsWord q (a .rows) (a .n) (a .a) (a .b) m =
-    ap (levelWord q (a .rows) (a .n) (a .a) (a .b)) (sym here)
+    let stays : levelWord q (now (a .rows)) (a .n) (a .a) (a .b) (levelsWord q (now (a .rows)) (a .n) (a .a) (a .b) m) ≡ levelsWord q (now (a .rows)) (a .n) (a .a) (a .b) m =
+    ap (levelWord q (now (a .rows)) (a .n) (a .a) (a .b)) (sym here)
     ∙ ap (λ (k : ℕ). bitAnd (a .b) (bitOr (a .a) k)) (sym (c .before .next-states .ensures))
     ∙ c .if1 .taken
     ∙ here in
-    here ∙ sym (levels-stay q (a .rows) (a .n) (a .a) (a .b) m stays (a .n) (omega arith))
+    here ∙ sym (levels-stay q (now (a .rows)) (a .n) (a .a) (a .b) m stays (a .n) (omega arith))
 
 add-m : tie.Need-add-m Inv-loop μ-loop
 add-m c = search needs
@@ -49,14 +50,14 @@ loop-again c =
     let q = quantifierOf (a .q) in (
       omega arith,
       ap (λ (k : ℕ). bitAnd (a .b) (bitOr (a .a) k)) (c .before .next-states .ensures)
-          ∙ ap (levelWord q (a .rows) (a .n) (a .a) (a .b)) (c .before .before .before .loop .inv .1)
-          ∙ sym (ap (levelsWord q (a .rows) (a .n) (a .a) (a .b)) (add-one (c .before .before .before .loop .m))),
+          ∙ ap (levelWord q (now (a .rows)) (a .n) (a .a) (a .b)) (c .before .before .before .loop .inv .1)
+          ∙ sym (ap (levelsWord q (now (a .rows)) (a .n) (a .a) (a .b)) (add-one (c .before .before .before .loop .m))),
     )
 
 returns-2 : tie.Need-returns-2 Inv-loop μ-loop
 returns-2 c =
     let a = c .before .before .args in
-    c .before .loop .inv .1 ∙ ap (levelsWord (quantifierOf (a .q)) (a .rows) (a .n) (a .a) (a .b)) (omega arith)
+    c .before .loop .inv .1 ∙ ap (levelsWord (quantifierOf (a .q)) (now (a .rows)) (a .n) (a .a) (a .b)) (omega arith)
 
 pub release-states-spec : {M : Type 1} → statement M
 release-states-spec =
