@@ -11,7 +11,7 @@ same-length : tie.Need-same-length
 same-length c = search needs
 
 returns : tie.Need-returns
-returns c = λ w. simp (eq-eqb _ _ (c .before .before .before .before .if1 .taken)) (c .before .before .same-step .ensures w)
+returns c = let a = c .before .before .before .before .before .before .args in λ w. simp (eq-eqb (a .a) (a .b) (c .before .before .before .before .if1 .taken)) (c .before .before .same-step .ensures w)
 
 both-step-requires : tie.Need-both-step-requires
 both-step-requires c κs = search needs
@@ -20,7 +20,7 @@ same-length-2 : tie.Need-same-length-2
 same-length-2 c = search needs
 
 returns-2 : tie.Need-returns-2
-returns-2 c = λ w. simp (ne-eqb _ _ (c .before .before .before .before .if1 .left)) (c .before .before .both-step .ensures w)
+returns-2 c = let a = c .before .before .before .before .before .before .args in λ w. simp (ne-eqb (a .a) (a .b) (c .before .before .before .before .if1 .left)) (c .before .before .both-step .ensures w)
 
 pub pair-step-spec : {M : Type 1} → statement M
 pair-step-spec =
