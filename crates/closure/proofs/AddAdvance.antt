@@ -11,9 +11,10 @@ use lib.ListN.{length}
 use Rattle.table.specs.Table.{Table}
 use Rattle.circuit.specs.Logic.{Literal}
 use Rattle.circuit.specs.Variables.{Var}
-use Rattle.closure.specs.declared.row.Row.{Row}
-use Rattle.closure.specs.Row.{Within, Clear, clashes, union}
-use Rattle.closure.specs.Memory.{Memory, knowledge, rowAt, SmallRow, Sized, nodePlace, levelBase, levelTotal, levelRow}
+use Rattle.rows.specs.declared.row.Row.{Row}
+use Rattle.rows.specs.Row.{Within, Clear, clashes, union}
+use Rattle.rows.specs.Words.{rowAt, SmallRow}
+use Rattle.closure.specs.Memory.{Memory, knowledge, Sized, nodePlace, levelBase, levelTotal, levelRow}
 use Rattle.closure.specs.Inside.{Inside, Clash}
 use Rattle.closure.specs.Advance.{ForcedBy}
 use Rattle.closure.specs.Sweep.{memory, Stepped, addRow, addWord}

@@ -14,10 +14,11 @@ use Rattle.table.specs.Facts.{Wellformed}
 use Rattle.ctl.specs.Rule.{Quantifier, release, operatorOf}
 use Rattle.circuit.specs.Logic.{Literal}
 use Rattle.circuit.specs.Variables.{Var, level}
-use Rattle.closure.specs.declared.row.Row.{Row}
-use Rattle.closure.specs.declared.join.Family.the-variants.{Release}
+use Rattle.rows.specs.declared.row.Row.{Row}
+use Rattle.rows.specs.declared.family.Family.the-variants.{Release}
 use Rattle.closure.specs.declared.level.Fixpoint.{Fixpoint}
-use Rattle.closure.specs.Memory.{Memory, rowAt, SmallRow, Sized, nodePlace, levelSize, levelBase, levelTotal}
+use Rattle.rows.specs.Words.{rowAt, SmallRow}
+use Rattle.closure.specs.Memory.{Memory, Sized, nodePlace, levelSize, levelBase, levelTotal}
 use Rattle.closure.specs.Inside.{RowIn}
 use Rattle.closure.specs.Advance.{ForcedBy}
 use Rattle.closure.specs.Sweep.{addRow, addWord, addLevel}

@@ -13,8 +13,9 @@ use Rattle.table.specs.Facts.{Wellformed}
 use Rattle.circuit.specs.Logic.{Literal}
 use Rattle.circuit.specs.Variables.{Var, kept, value}
 use Rattle.circuit.specs.Clauses.{Clause, clauses}
-use Rattle.closure.specs.declared.row.Row.{Row}
-use Rattle.closure.specs.Memory.{Memory, knowledge, SmallRow, Sized, stepPlace, nodePlace, keptPlace}
+use Rattle.rows.specs.declared.row.Row.{Row}
+use Rattle.rows.specs.Words.{SmallRow, stepPlace}
+use Rattle.closure.specs.Memory.{Memory, knowledge, Sized, nodePlace, keptPlace}
 use Rattle.closure.specs.Inside.{RowIn, StepsIn, Inside}
 use Rattle.closure.specs.Advance.{ForcedBy}
 use Rattle.closure.specs.Sweep.{addRow}

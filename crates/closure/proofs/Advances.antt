@@ -12,8 +12,9 @@ use Rattle.table.specs.Table.{Table}
 use Rattle.table.proofs.Bools.{or-parts, or-neither}
 use Rattle.circuit.specs.Logic.{Literal}
 use Rattle.circuit.specs.Variables.{Var}
-use Rattle.closure.specs.declared.row.Report.{Report}
-use Rattle.closure.specs.Memory.{Memory, Knowledge, knowledge, Sized, bothReports, quiet, total}
+use Rattle.rows.specs.declared.row.Report.{Report}
+use Rattle.rows.specs.Words.{bothReports, quiet}
+use Rattle.closure.specs.Memory.{Memory, Knowledge, knowledge, Sized, total}
 use Rattle.closure.specs.Inside.{Inside, Clash}
 use Rattle.closure.specs.Advance.{ForcedBy, Advance}
 use Rattle.closure.specs.Sweep.{Stepped, failing, Visit, eachWith, eachBelow, ordered}

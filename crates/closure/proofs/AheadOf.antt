@@ -9,8 +9,8 @@ use Rattle.ctl.specs.Rule.{Quantifier, next, release, operatorOf}
 use Rattle.circuit.specs.Logic.{Literal}
 use Rattle.circuit.specs.Variables.{Var, edge, ahead, level, value}
 use Rattle.circuit.specs.Clauses.{Clause, clauses}
-use Rattle.closure.specs.declared.row.Row.{Row}
-use Rattle.closure.specs.Memory.{SmallRow}
+use Rattle.rows.specs.declared.row.Row.{Row}
+use Rattle.rows.specs.Words.{SmallRow}
 use Rattle.closure.specs.Inside.{RowIn, StepsIn}
 use Rattle.closure.proofs.Forced.{Closed}
 use Rattle.closure.proofs.GateOf.{next-edge-gate, next-gate, level-edge-gate, ahead-gate}

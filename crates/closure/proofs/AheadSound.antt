@@ -16,10 +16,11 @@ use Rattle.circuit.specs.Logic.{Literal, pos}
 use Rattle.circuit.specs.Variables.{Var, stepsOut}
 use Rattle.circuit.specs.Gates.{edgeGate, aheadGate}
 use Rattle.circuit.proofs.Lists.{in-out}
-use Rattle.closure.specs.declared.row.Row.{Row}
-use Rattle.closure.specs.Row.{known, turned, only}
-use Rattle.closure.specs.Memory.{SmallRow}
-use Rattle.closure.specs.Rules.{isEvery, unmet, aheadRow, lastLeft, backSteps, backEnd}
+use Rattle.rows.specs.declared.row.Row.{Row}
+use Rattle.rows.specs.Row.{known, turned, only}
+use Rattle.rows.specs.Words.{SmallRow}
+use Rattle.rows.specs.Rules.{unmet, aheadRow, lastLeft, backSteps, backEnd}
+use Rattle.closure.specs.Dual.{isEvery}
 use Rattle.closure.specs.Inside.{literal, RowIn, StepsIn}
 use Rattle.closure.proofs.RowLaws.{empty-none, nonempty-some, member-below, and-true, unmet-true, without-small, target-true, target-small, turned-small}
 use Rattle.closure.proofs.GateOf.{ClosedGate}

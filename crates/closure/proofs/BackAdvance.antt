@@ -18,12 +18,14 @@ use Rattle.table.proofs.Bools.{and-parts}
 use Rattle.ctl.specs.Rule.{Quantifier}
 use Rattle.circuit.specs.Logic.{Literal}
 use Rattle.circuit.specs.Variables.{Var}
-use Rattle.closure.specs.declared.row.Row.{Row}
-use Rattle.closure.specs.Row.{known, turned, only, Within, union}
-use Rattle.closure.specs.Rules.{isEvery, row, isNone, unmet, lastLeft, backSteps, backEnd}
-use Rattle.closure.specs.Memory.{Memory, Knowledge, knowledge, rowAt, SmallRow, Sized, stepPlace}
+use Rattle.rows.specs.declared.row.Row.{Row}
+use Rattle.rows.specs.Row.{known, turned, only, Within, union}
+use Rattle.rows.specs.Rules.{row, isNone, unmet, lastLeft, backSteps, backEnd}
+use Rattle.closure.specs.Dual.{isEvery}
+use Rattle.rows.specs.Words.{rowAt, SmallRow, stepPlace}
+use Rattle.closure.specs.Memory.{Memory, Knowledge, knowledge, Sized}
 use Rattle.closure.specs.Inside.{RowIn, StepsIn, Inside}
-use Rattle.closure.specs.Back.{backRows, backRow, backReport}
+use Rattle.rows.specs.Back.{backRows, backRow, backReport}
 use Rattle.closure.specs.Advance.{ForcedBy}
 use Rattle.closure.specs.Sweep.{memory, Stepped, failing, goBack, goBackMore, addRow}
 use Rattle.closure.proofs.RowLaws.{cond-true, target-small, turned-small}

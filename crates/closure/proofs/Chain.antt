@@ -3,10 +3,11 @@ use Prim.Native.Nat.{ℕ, suc}
 use mathlib.Core.Path.{_≡_, ap, _∙_}
 use mathlib.Core.List.{List}
 use lib.ListN.{length}
-use Rattle.closure.specs.declared.row.Row.{Row}
-use Rattle.closure.specs.declared.row.Report.{Report}
+use Rattle.rows.specs.declared.row.Row.{Row}
+use Rattle.rows.specs.declared.row.Report.{Report}
 use Rattle.closure.specs.declared.level.Fixpoint.{Fixpoint}
-use Rattle.closure.specs.Memory.{Memory, joined, reportOf, bothReports}
+use Rattle.rows.specs.Words.{joined, reportOf, bothReports}
+use Rattle.closure.specs.Memory.{Memory}
 use Rattle.closure.specs.Setting.{Fits}
 use Rattle.closure.specs.Sweep.{Stepped, memory, stepped, addRow, _andThen_, Visit, eachWith}
 

@@ -8,9 +8,9 @@ use Rattle.table.specs.Facts.{Wellformed}
 use Rattle.circuit.specs.Logic.{Literal}
 use Rattle.circuit.specs.Variables.{Var, step}
 use Rattle.circuit.specs.Clauses.{Clause, clauses}
-use Rattle.closure.specs.declared.row.Row.{Row}
-use Rattle.closure.specs.Row.{known, clashes}
-use Rattle.closure.specs.Memory.{SmallRow}
+use Rattle.rows.specs.declared.row.Row.{Row}
+use Rattle.rows.specs.Row.{known, clashes}
+use Rattle.rows.specs.Words.{SmallRow}
 use Rattle.closure.specs.Inside.{RowIn, StepsIn, Clash}
 use Rattle.closure.proofs.RowLaws.{clash-state}
 use Rattle.closure.proofs.Forced.{Closed}

@@ -11,11 +11,12 @@ use Rattle.table.specs.Facts.{Wellformed}
 use Rattle.circuit.specs.Logic.{Literal}
 use Rattle.circuit.specs.Variables.{Var, step}
 use Rattle.circuit.specs.Clauses.{clauses}
-use Rattle.closure.specs.declared.row.Row.{Row}
-use Rattle.closure.specs.declared.row.Report.{Report}
+use Rattle.rows.specs.declared.row.Row.{Row}
+use Rattle.rows.specs.declared.row.Report.{Report}
 use Rattle.closure.specs.Closure.{Fails}
-use Rattle.closure.specs.Row.{known}
-use Rattle.closure.specs.Memory.{Memory, Knowledge, knowledge, rowAt, SmallRow, Small, Sized, levelTotal, levelBase, levelRow, nodePlace, stepPlace, sum, total}
+use Rattle.rows.specs.Row.{known}
+use Rattle.rows.specs.Words.{rowAt, SmallRow, stepPlace}
+use Rattle.closure.specs.Memory.{Memory, Knowledge, knowledge, Small, Sized, levelTotal, levelBase, levelRow, nodePlace, sum, total}
 use Rattle.closure.specs.Rest.{Rest}
 use Rattle.closure.specs.Inside.{literal, Inside}
 use Rattle.closure.specs.Advance.{ForcedBy, Grows, Advance}

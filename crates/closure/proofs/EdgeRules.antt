@@ -9,7 +9,7 @@ use Rattle.circuit.specs.Logic.{Literal, pos, neg, opposite}
 use Rattle.circuit.specs.Variables.{Var, step}
 use Rattle.circuit.specs.Gates.{edgeGate, aheadGate}
 use Rattle.circuit.proofs.Lists.{each-more, each-one, each-map}
-use Rattle.closure.specs.Rules.{isEvery}
+use Rattle.closure.specs.Dual.{isEvery}
 use Rattle.closure.specs.Inside.{literal}
 use Rattle.closure.proofs.GateRules.{ClosedAnd, twice-in, in-twice, and-up, and-down, and-false, and-last}
 use Rattle.closure.proofs.GateOf.{ClosedGate}

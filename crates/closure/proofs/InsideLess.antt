@@ -7,9 +7,10 @@ use lib.ListN.{length}
 use Rattle.table.specs.Table.{Table, nodeAt}
 use Rattle.circuit.specs.Logic.{Literal}
 use Rattle.circuit.specs.Variables.{Var}
-use Rattle.closure.specs.declared.row.Report.{Report}
-use Rattle.closure.specs.Row.{Within}
-use Rattle.closure.specs.Memory.{Memory, Knowledge, knowledge, rowAt, stepPlace, nodePlace, keptPlace, levelBase, levelRow}
+use Rattle.rows.specs.declared.row.Report.{Report}
+use Rattle.rows.specs.Row.{Within}
+use Rattle.rows.specs.Words.{rowAt, stepPlace}
+use Rattle.closure.specs.Memory.{Memory, Knowledge, knowledge, nodePlace, keptPlace, levelBase, levelRow}
 use Rattle.closure.specs.Inside.{Inside}
 use Rattle.closure.specs.Advance.{Grows, Advance}
 

@@ -13,10 +13,10 @@ use Rattle.ctl.specs.Rule.{Quantifier, release, operatorOf}
 use Rattle.circuit.specs.Logic.{Literal}
 use Rattle.circuit.specs.Variables.{Var, ahead, either, level, value}
 use Rattle.circuit.specs.Clauses.{Clause, clauses}
-use Rattle.closure.specs.declared.row.Row.{Row}
-use Rattle.closure.specs.Row.{clashes}
-use Rattle.closure.specs.Memory.{SmallRow}
-use Rattle.closure.specs.Rules.{eitherRow, aheadWith, joinRelease}
+use Rattle.rows.specs.declared.row.Row.{Row}
+use Rattle.rows.specs.Row.{clashes}
+use Rattle.rows.specs.Words.{SmallRow}
+use Rattle.rows.specs.Rules.{eitherRow, aheadWith, joinRelease}
 use Rattle.closure.specs.Inside.{RowIn, Clash}
 use Rattle.closure.proofs.Forced.{Closed}
 use Rattle.closure.proofs.GateOf.{either-gate, level-gate}

@@ -12,9 +12,9 @@ use lib.ListN.{length, getD, set, length-set}
 use lib.Seq.{getD-set-same, getD-set-other, set-getD, lt-length-set}
 use Rattle.sets.specs.Member.{member}
 use Rattle.table.proofs.Bools.{or-parts, or-neither}
-use Rattle.closure.specs.declared.row.Row.{Row}
-use Rattle.closure.specs.Row.{Within, union}
-use Rattle.closure.specs.Memory.{rowAt, joined, reportOf, SmallRow}
+use Rattle.rows.specs.declared.row.Row.{Row}
+use Rattle.rows.specs.Row.{Within, union}
+use Rattle.rows.specs.Words.{rowAt, joined, reportOf, SmallRow}
 use Rattle.closure.specs.Advance.{Grows}
 use Rattle.closure.proofs.RowLaws.{or-true, cond-small}
 

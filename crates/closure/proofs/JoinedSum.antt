@@ -5,8 +5,9 @@ use mathlib.Core.Path.{_≡_, sym}
 use mathlib.Core.Bool.{true}
 use mathlib.Core.List.{List, [], _∷_}
 use lib.ListN.{length, getD}
-use Rattle.closure.specs.declared.row.Row.{Row}
-use Rattle.closure.specs.Memory.{joined, reportOf, sum}
+use Rattle.rows.specs.declared.row.Row.{Row}
+use Rattle.rows.specs.Words.{joined, reportOf}
+use Rattle.closure.specs.Memory.{sum}
 use Rattle.closure.proofs.JoinedRows.{joined-length, joined-up, joined-more}
 
 -- no word is smaller

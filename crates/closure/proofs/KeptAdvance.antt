@@ -10,8 +10,9 @@ use Rattle.table.specs.Table.{Table}
 use Rattle.table.specs.Facts.{Wellformed}
 use Rattle.table.specs.Rows.{targetSet}
 use Rattle.ctl.specs.Rule.{rootIndex}
-use Rattle.closure.specs.Memory.{Memory, rowAt, Sized, stepPlace, nodePlace, keptPlace}
-use Rattle.closure.specs.Rules.{keptRow, keptSteps, openStarts, startKept, startRoot}
+use Rattle.rows.specs.Words.{rowAt, stepPlace}
+use Rattle.closure.specs.Memory.{Memory, Sized, nodePlace, keptPlace}
+use Rattle.rows.specs.Rules.{keptRow, keptSteps, openStarts, startKept, startRoot}
 use Rattle.closure.specs.Rest.{initialSet, RestKept, RestStart}
 use Rattle.closure.specs.Advance.{ForcedBy}
 use Rattle.closure.specs.Sweep.{_andThen_, addRow, nodeRow, keptStep, startStep}

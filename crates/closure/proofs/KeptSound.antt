@@ -17,10 +17,10 @@ use Rattle.circuit.specs.Variables.{Var, step, kept, stepsOut}
 use Rattle.circuit.specs.Clauses.{Clause, clauses}
 use Rattle.circuit.proofs.Lists.{each-more, each-one, in-out}
 use Rattle.circuit.proofs.Clauses.{step-in}
-use Rattle.closure.specs.declared.row.Row.{Row}
-use Rattle.closure.specs.Row.{only}
-use Rattle.closure.specs.Memory.{SmallRow}
-use Rattle.closure.specs.Rules.{unstruck, keptRow, keptSteps}
+use Rattle.rows.specs.declared.row.Row.{Row}
+use Rattle.rows.specs.Row.{only}
+use Rattle.rows.specs.Words.{SmallRow}
+use Rattle.rows.specs.Rules.{unstruck, keptRow, keptSteps}
 use Rattle.closure.specs.Inside.{RowIn, StepsIn}
 use Rattle.closure.proofs.RowLaws.{without-true, empty-none, nonempty-some, member-below, and-true, without-small, target-true, target-small}
 use Rattle.closure.proofs.Forced.{Closed}

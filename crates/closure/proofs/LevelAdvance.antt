@@ -13,14 +13,16 @@ use Rattle.table.proofs.Bools.{or-neither}
 use Rattle.ctl.specs.Rule.{Quantifier, release, operatorOf}
 use Rattle.circuit.specs.Logic.{Literal}
 use Rattle.circuit.specs.Variables.{Var, ahead, level, value}
-use Rattle.closure.specs.declared.row.Row.{Row}
-use Rattle.closure.specs.declared.join.Joined.{Joined}
-use Rattle.closure.specs.declared.join.Family.the-variants.{Release}
+use Rattle.rows.specs.declared.row.Row.{Row}
+use Rattle.rows.specs.declared.family.Joined.{Joined}
+use Rattle.rows.specs.declared.family.Family.the-variants.{Release}
 use Rattle.closure.specs.declared.level.Fixpoint.{Fixpoint}
 use Rattle.closure.specs.declared.levels.Seen.{Seen}
-use Rattle.closure.specs.Row.{ClearAt, clashes}
-use Rattle.closure.specs.Rules.{isEvery, eitherRow, joinRelease}
-use Rattle.closure.specs.Memory.{Memory, Knowledge, knowledge, SmallRow, Sized, stepPlace, nodePlace, levelBase}
+use Rattle.rows.specs.Row.{ClearAt, clashes}
+use Rattle.rows.specs.Rules.{eitherRow, joinRelease}
+use Rattle.closure.specs.Dual.{isEvery}
+use Rattle.rows.specs.Words.{SmallRow, stepPlace}
+use Rattle.closure.specs.Memory.{Memory, Knowledge, knowledge, Sized, nodePlace, levelBase}
 use Rattle.closure.specs.Rest.{RestLevel}
 use Rattle.closure.specs.Inside.{RowIn, Clash}
 use Rattle.closure.specs.Advance.{ForcedBy}

@@ -7,10 +7,10 @@ use lib.Bits.{bitOr}
 use Rattle.table.specs.Table.{Table}
 use Rattle.circuit.specs.Logic.{Literal}
 use Rattle.circuit.specs.Variables.{Var}
-use Rattle.closure.specs.declared.row.Row.{Row}
-use Rattle.closure.specs.Row.{known, turned, Within}
-use Rattle.closure.specs.Rules.{newOf, isNone}
-use Rattle.closure.specs.Memory.{SmallRow}
+use Rattle.rows.specs.declared.row.Row.{Row}
+use Rattle.rows.specs.Row.{known, turned, Within}
+use Rattle.rows.specs.Rules.{newOf, isNone}
+use Rattle.rows.specs.Words.{SmallRow}
 use Rattle.closure.specs.Inside.{RowIn}
 use Rattle.closure.proofs.RowLaws.{or-true, empty-none, without-true, without-small}
 

@@ -14,10 +14,12 @@ use Rattle.table.specs.Facts.{Wellformed}
 use Rattle.table.specs.Rows.{targetSet}
 use Rattle.ctl.specs.Rule.{Quantifier, next, operatorOf}
 use Rattle.circuit.specs.Variables.{value}
-use Rattle.closure.specs.declared.row.Row.{Row}
-use Rattle.closure.specs.Row.{turned, WithinAt}
-use Rattle.closure.specs.Rules.{isEvery, row, unmet, newOf}
-use Rattle.closure.specs.Memory.{Memory, rowAt, SmallRow, Sized, stepPlace, nodePlace}
+use Rattle.rows.specs.declared.row.Row.{Row}
+use Rattle.rows.specs.Row.{turned, WithinAt}
+use Rattle.rows.specs.Rules.{row, unmet, newOf}
+use Rattle.closure.specs.Dual.{isEvery}
+use Rattle.rows.specs.Words.{rowAt, SmallRow, stepPlace}
+use Rattle.closure.specs.Memory.{Memory, Sized, nodePlace}
 use Rattle.closure.specs.Rest.{aheadOf, RestBack}
 use Rattle.closure.specs.Advance.{ForcedBy}
 use Rattle.closure.specs.Sweep.{_andThen_, addRow, nodeRow, aheadIn, goBackMore, nextStep}

@@ -18,8 +18,9 @@ use Rattle.table.specs.Rows.{targetSet}
 use Rattle.table.proofs.Accepted.{state-read}
 use Rattle.ctl.specs.Rule.{Quantifier, every, some, Operator, constant, atom, negation, conjunction, disjunction, next, release, operatorOf}
 use Rattle.ctl.proofs.BottomUp.{Below, children-below}
-use Rattle.closure.specs.Row.{ClearAt}
-use Rattle.closure.specs.Rules.{isEvery, constantRow}
+use Rattle.rows.specs.Row.{ClearAt}
+use Rattle.rows.specs.Rules.{constantRow}
+use Rattle.closure.specs.Dual.{isEvery}
 use Rattle.closure.specs.Memory.{Memory, Knowledge, knowledge, Sized, nodePlace, levelBase, levelRow}
 use Rattle.closure.specs.Rest.{labelledSet, constantSet, RestSame, RestBoth, RestNode}
 use Rattle.closure.specs.Advance.{ForcedBy}

@@ -16,9 +16,10 @@ use Rattle.circuit.specs.Variables.{Var, level, valueOf, value}
 use Rattle.circuit.specs.Gates.{aheadGate, constantGate}
 use Rattle.circuit.specs.Clauses.{Clause, clauses}
 use Rattle.circuit.proofs.Lists.{each-none}
-use Rattle.closure.specs.declared.row.Row.{Row}
-use Rattle.closure.specs.Row.{turned}
-use Rattle.closure.specs.Rules.{isEvery, andOutput, andInput, constantRow}
+use Rattle.rows.specs.declared.row.Row.{Row}
+use Rattle.rows.specs.Row.{turned}
+use Rattle.rows.specs.Rules.{andOutput, andInput, constantRow}
+use Rattle.closure.specs.Dual.{isEvery}
 use Rattle.closure.specs.Rest.{constantSet, labelledSet}
 use Rattle.closure.specs.Inside.{literal, RowIn}
 use Rattle.closure.proofs.RowLaws.{without-true, set-true, set-small}

@@ -11,10 +11,12 @@ use Rattle.table.specs.Facts.{Wellformed}
 use Rattle.ctl.specs.Rule.{Quantifier, operatorOf}
 use Rattle.circuit.specs.Logic.{Literal}
 use Rattle.circuit.specs.Variables.{Var, value}
-use Rattle.closure.specs.declared.row.Row.{Row}
-use Rattle.closure.specs.Row.{turned, Within, Clear}
-use Rattle.closure.specs.Memory.{Memory, Knowledge, SmallRow, Sized, nodePlace}
-use Rattle.closure.specs.Rules.{isEvery, andOutput, andInput}
+use Rattle.rows.specs.declared.row.Row.{Row}
+use Rattle.rows.specs.Row.{turned, Within, Clear}
+use Rattle.rows.specs.Words.{SmallRow}
+use Rattle.closure.specs.Memory.{Memory, Knowledge, Sized, nodePlace}
+use Rattle.rows.specs.Rules.{andOutput, andInput}
+use Rattle.closure.specs.Dual.{isEvery}
 use Rattle.closure.specs.Rest.{RestSame, RestBoth}
 use Rattle.closure.specs.Inside.{RowIn}
 use Rattle.closure.specs.Advance.{ForcedBy}

@@ -13,10 +13,11 @@ use Rattle.circuit.specs.Logic.{Literal, pos, opposite}
 use Rattle.circuit.specs.Variables.{Var, step, edge, stepsOut}
 use Rattle.circuit.specs.Gates.{Defined, edgeGate, aheadGate, edges}
 use Rattle.circuit.proofs.Lists.{Each, each-map, in-out}
-use Rattle.closure.specs.declared.row.Row.{Row}
-use Rattle.closure.specs.Row.{known, turned, WithinAt, ClearAt}
-use Rattle.closure.specs.Rules.{isEvery}
-use Rattle.closure.specs.Memory.{Knowledge, Small, SmallRow}
+use Rattle.rows.specs.declared.row.Row.{Row}
+use Rattle.rows.specs.Row.{known, turned, WithinAt, ClearAt}
+use Rattle.closure.specs.Dual.{isEvery}
+use Rattle.rows.specs.Words.{SmallRow}
+use Rattle.closure.specs.Memory.{Knowledge, Small}
 use Rattle.closure.specs.Rest.{aheadOf, RestBack, Rest}
 use Rattle.closure.specs.Inside.{literal}
 use Rattle.closure.proofs.RowLaws.{set-true, some-nonempty, and-true, target-true, target-small, turned-small}

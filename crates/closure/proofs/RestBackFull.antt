@@ -14,10 +14,12 @@ use Rattle.table.specs.Facts.{Wellformed}
 use Rattle.table.specs.Rows.{targetSet}
 use Rattle.table.proofs.Bools.{and-parts, parts-and}
 use Rattle.ctl.specs.Rule.{Quantifier}
-use Rattle.closure.specs.declared.row.Row.{Row}
-use Rattle.closure.specs.Row.{known, turned, only, Within, ClearAt}
-use Rattle.closure.specs.Rules.{isEvery, unmet, aheadRow, lastLeft, backSteps, backEnd, newOf}
-use Rattle.closure.specs.Memory.{Knowledge, Small, SmallRow}
+use Rattle.rows.specs.declared.row.Row.{Row}
+use Rattle.rows.specs.Row.{known, turned, only, Within, ClearAt}
+use Rattle.rows.specs.Rules.{unmet, aheadRow, lastLeft, backSteps, backEnd, newOf}
+use Rattle.closure.specs.Dual.{isEvery}
+use Rattle.rows.specs.Words.{SmallRow}
+use Rattle.closure.specs.Memory.{Knowledge, Small}
 use Rattle.closure.specs.Rest.{aheadOf, RestBack}
 use Rattle.closure.proofs.Forced.{one-of-both}
 use Rattle.closure.proofs.RowLaws.{and-true, cond-true, set-true, without-true, without-small, empty-none, nonempty-some, only-true, set-small, member-below, target-true, target-small, turned-small, unmet-true}

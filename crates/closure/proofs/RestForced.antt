@@ -15,7 +15,7 @@ use Rattle.circuit.proofs.Outputs.{variable-cases, step-variable}
 use Rattle.circuit.proofs.Covered.{clause-variables}
 use Rattle.circuit.proofs.Clauses.{each-clause}
 use Rattle.closure.specs.Closure.{given, unit, Fails}
-use Rattle.closure.specs.Row.{known, ClearAt}
+use Rattle.rows.specs.Row.{known, ClearAt}
 use Rattle.closure.specs.Memory.{Knowledge, Small}
 use Rattle.closure.specs.Rest.{Rest}
 use Rattle.closure.specs.Inside.{literal}

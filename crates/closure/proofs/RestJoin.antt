@@ -4,9 +4,9 @@ use mathlib.Core.Path.{_≡_}
 use mathlib.Core.Bool.{true, false}
 use mathlib.Core.Logic.{inl, inr, ⊎-elim}
 use lib.Bits.{bitAnd, bitOr}
-use Rattle.closure.specs.declared.row.Row.{Row}
-use Rattle.closure.specs.Row.{known, turned, WithinAt, ClearAt}
-use Rattle.closure.specs.Rules.{andOutput, andInput, eitherRow, joinRelease}
+use Rattle.rows.specs.declared.row.Row.{Row}
+use Rattle.rows.specs.Row.{known, turned, WithinAt, ClearAt}
+use Rattle.rows.specs.Rules.{andOutput, andInput, eitherRow, joinRelease}
 use Rattle.closure.proofs.RowLaws.{and-true, or-true}
 use Rattle.closure.proofs.Says.{AndRow}
 

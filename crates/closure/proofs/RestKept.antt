@@ -18,8 +18,8 @@ use Rattle.circuit.specs.Logic.{pos, neg, any}
 use Rattle.circuit.specs.Variables.{step, kept, stepsOut}
 use Rattle.circuit.specs.Gates.{keptGates}
 use Rattle.circuit.proofs.Lists.{Each, each-one, each-over, in-out}
-use Rattle.closure.specs.Row.{known, turned}
-use Rattle.closure.specs.Rules.{unstruck}
+use Rattle.rows.specs.Row.{known, turned}
+use Rattle.rows.specs.Rules.{unstruck}
 use Rattle.closure.specs.Memory.{Knowledge, Small}
 use Rattle.closure.specs.Rest.{Rest}
 use Rattle.closure.proofs.RowLaws.{without-true, without-small, none-empty, some-nonempty, or-true, cond-true, set-true, target-true, target-small}

@@ -14,8 +14,9 @@ use Rattle.circuit.specs.Logic.{pos, all, any}
 use Rattle.circuit.specs.Variables.{step, node, edge, ahead, either, level, concat, stepsOut, value}
 use Rattle.circuit.specs.Gates.{is, aheadGate, edges, levelGates, atStates}
 use Rattle.circuit.proofs.Lists.{Each, each-more, each-one, each-append, each-over}
-use Rattle.closure.specs.Row.{turned, WithinAt, ClearAt}
-use Rattle.closure.specs.Rules.{isEvery, newOf}
+use Rattle.rows.specs.Row.{turned, WithinAt, ClearAt}
+use Rattle.rows.specs.Rules.{newOf}
+use Rattle.closure.specs.Dual.{isEvery}
 use Rattle.closure.specs.Memory.{Knowledge, Small}
 use Rattle.closure.specs.Rest.{aheadOf, RestBack, RestLevel, Rest}
 use Rattle.closure.specs.Inside.{literal}

@@ -15,8 +15,9 @@ use Rattle.circuit.specs.Logic.{Literal, pos, neg, Gate, all}
 use Rattle.circuit.specs.Variables.{Var, node, value}
 use Rattle.circuit.specs.Gates.{is, aheadGate, constantGate, atStates}
 use Rattle.circuit.proofs.Lists.{Each, each-one, each-over}
-use Rattle.closure.specs.Row.{known, turned, WithinAt}
-use Rattle.closure.specs.Rules.{isEvery, constantRow}
+use Rattle.rows.specs.Row.{known, turned, WithinAt}
+use Rattle.rows.specs.Rules.{constantRow}
+use Rattle.closure.specs.Dual.{isEvery}
 use Rattle.closure.specs.Memory.{Knowledge}
 use Rattle.closure.specs.Rest.{RestBoth, RestSame, Rest}
 use Rattle.closure.specs.Inside.{literal}

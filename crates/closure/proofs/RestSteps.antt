@@ -7,10 +7,10 @@ use lib.Bits.{bitOr}
 use lib.Dec.{eqb}
 use Rattle.sets.specs.Member.{member}
 use Rattle.table.proofs.Bools.{parts-and}
-use Rattle.closure.specs.declared.row.Row.{Row}
-use Rattle.closure.specs.Row.{known, turned, only, Within, ClearAt}
-use Rattle.closure.specs.Rules.{unmet, lastLeft, backSteps, backEnd}
-use Rattle.closure.specs.Memory.{SmallRow}
+use Rattle.rows.specs.declared.row.Row.{Row}
+use Rattle.rows.specs.Row.{known, turned, only, Within, ClearAt}
+use Rattle.rows.specs.Rules.{unmet, lastLeft, backSteps, backEnd}
+use Rattle.rows.specs.Words.{SmallRow}
 use Rattle.closure.proofs.Forced.{one-of-both}
 use Rattle.closure.proofs.RowLaws.{without-small, none-empty, and-true, or-true, cond-true, unmet-true}
 use Rattle.closure.proofs.RowMore.{not-so, same-or, only-this}

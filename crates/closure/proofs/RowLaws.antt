@@ -22,10 +22,10 @@ use Rattle.table.specs.Facts.{Wellformed}
 use Rattle.table.proofs.All.{any-at, at-any}
 use Rattle.table.proofs.Bools.{and-parts, parts-and, or-parts, or-left, or-right, or-neither}
 use Rattle.table.specs.Rows.{targetSet}
-use Rattle.closure.specs.declared.row.Row.{Row}
-use Rattle.closure.specs.Row.{known, turned, without, only, Clear, clashes, union}
-use Rattle.closure.specs.Memory.{SmallRow}
-use Rattle.closure.specs.Rules.{unmet}
+use Rattle.rows.specs.declared.row.Row.{Row}
+use Rattle.rows.specs.Row.{known, turned, without, only, Clear, clashes, union}
+use Rattle.rows.specs.Words.{SmallRow}
+use Rattle.rows.specs.Rules.{unmet}
 
 -- ---- one word
 

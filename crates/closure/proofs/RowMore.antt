@@ -6,8 +6,8 @@ use mathlib.Core.Logic.{⊎-elim}
 use borrow.Author.Tests.{eqb-true, eqb-false}
 use lib.Dec.{eqb}
 use Rattle.sets.specs.Member.{member}
-use Rattle.closure.specs.declared.row.Row.{Row}
-use Rattle.closure.specs.Row.{known, turned, only, WithinAt, ClearAt}
+use Rattle.rows.specs.declared.row.Row.{Row}
+use Rattle.rows.specs.Row.{known, turned, only, WithinAt, ClearAt}
 use Rattle.closure.proofs.Forced.{one-of-both}
 use Rattle.closure.proofs.RowLaws.{nonempty-some, only-true}
 

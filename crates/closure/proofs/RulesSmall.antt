@@ -5,10 +5,10 @@ use mathlib.Core.Bool.{Bool, _&&_}
 use lib.Bits.{and-lt, or-lt}
 use Rattle.sets.specs.Member.{member}
 use Rattle.sets.proofs.SetOf.{setOf-lt}
-use Rattle.closure.specs.declared.row.Row.{Row}
-use Rattle.closure.specs.Row.{only}
-use Rattle.closure.specs.Memory.{SmallRow}
-use Rattle.closure.specs.Rules.{row, unmet, aheadRow, lastLeft, backSteps, backEnd, andOutput, andInput, eitherRow, joinRelease, unstruck, keptRow, keptSteps, openStarts, startKept, startRoot, constantRow}
+use Rattle.rows.specs.declared.row.Row.{Row}
+use Rattle.rows.specs.Row.{only}
+use Rattle.rows.specs.Words.{SmallRow}
+use Rattle.rows.specs.Rules.{row, unmet, aheadRow, lastLeft, backSteps, backEnd, andOutput, andInput, eitherRow, joinRelease, unstruck, keptRow, keptSteps, openStarts, startKept, startRoot, constantRow}
 use Rattle.closure.proofs.RowLaws.{without-small, cond-small, set-small}
 
 pub none-small : SmallRow (row 0 0)

@@ -10,9 +10,10 @@ use Rattle.table.specs.Rows.{targetSet}
 use Rattle.ctl.specs.Rule.{Quantifier, Operator, constant, atom, negation, conjunction, disjunction, next, release, operatorOf}
 use Rattle.circuit.specs.Logic.{Literal, opposite}
 use Rattle.circuit.specs.Variables.{Var, step, kept, node, edge, ahead, either, level}
-use Rattle.closure.specs.declared.row.Row.{Row}
-use Rattle.closure.specs.Row.{known, turned, WithinAt}
-use Rattle.closure.specs.Rules.{isEvery, row, eitherRow, joinRelease}
+use Rattle.rows.specs.declared.row.Row.{Row}
+use Rattle.rows.specs.Row.{known, turned, WithinAt}
+use Rattle.rows.specs.Rules.{row, eitherRow, joinRelease}
+use Rattle.closure.specs.Dual.{isEvery}
 use Rattle.closure.specs.Memory.{Knowledge}
 use Rattle.closure.specs.Rest.{aheadOf}
 use Rattle.closure.proofs.RowMore.{turned-known, turned-opposite}

@@ -10,8 +10,8 @@ use Rattle.table.specs.Table.{Table, stepAt}
 use Rattle.table.specs.Facts.{Wellformed}
 use Rattle.circuit.specs.Logic.{Literal}
 use Rattle.circuit.specs.Variables.{Var, step}
-use Rattle.closure.specs.declared.row.Row.{Row}
-use Rattle.closure.specs.Row.{known, turned, only}
+use Rattle.rows.specs.declared.row.Row.{Row}
+use Rattle.rows.specs.Row.{known, turned, only}
 use Rattle.closure.specs.Inside.{literal, RowIn, StepsIn}
 use Rattle.closure.proofs.RowLaws.{and-true, or-true, cond-true, set-true, only-true, same-ends}
 

@@ -18,10 +18,10 @@ use Rattle.circuit.specs.Variables.{Var, kept, value}
 use Rattle.circuit.specs.Clauses.{Clause, initials, clauses}
 use Rattle.circuit.proofs.Lists.{each-map}
 use Rattle.circuit.proofs.Clauses.{in-initials, start-in, root-in}
-use Rattle.closure.specs.declared.row.Row.{Row}
-use Rattle.closure.specs.Row.{only}
-use Rattle.closure.specs.Memory.{SmallRow}
-use Rattle.closure.specs.Rules.{openStarts, startKept, startRoot}
+use Rattle.rows.specs.declared.row.Row.{Row}
+use Rattle.rows.specs.Row.{only}
+use Rattle.rows.specs.Words.{SmallRow}
+use Rattle.rows.specs.Rules.{openStarts, startKept, startRoot}
 use Rattle.closure.specs.Rest.{initialSet}
 use Rattle.closure.specs.Inside.{RowIn, Clash}
 use Rattle.closure.proofs.RowLaws.{without-true, member-below, only-true, and-true, set-true, without-small, set-small}

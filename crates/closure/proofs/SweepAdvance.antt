@@ -16,8 +16,9 @@ use Rattle.table.proofs.Accepted.{accepted}
 use Rattle.table.proofs.Bools.{or-parts}
 use Rattle.ctl.specs.Rule.{operatorOf}
 use Rattle.closure.specs.declared.net.Net.{Net}
-use Rattle.closure.specs.declared.row.Report.{Report}
-use Rattle.closure.specs.Memory.{Memory, Knowledge, knowledge, rowAt, Sized, nodePlace, quiet}
+use Rattle.rows.specs.declared.row.Report.{Report}
+use Rattle.rows.specs.Words.{rowAt, quiet}
+use Rattle.closure.specs.Memory.{Memory, Knowledge, knowledge, Sized, nodePlace}
 use Rattle.closure.specs.Rest.{RestKept, RestStart, Rest}
 use Rattle.closure.specs.Setting.{netOf, Setting}
 use Rattle.closure.specs.Advance.{Advance}

@@ -2,8 +2,8 @@
 use mathlib.Core.Path.{_≡_, refl}
 use mathlib.Core.Bool.{Bool, true, false}
 use mathlib.Core.Logic.{inl, inr}
-use Rattle.closure.specs.declared.row.Row.{Row}
-use Rattle.closure.specs.Row.{turned, Within, union}
+use Rattle.rows.specs.declared.row.Row.{Row}
+use Rattle.rows.specs.Row.{turned, Within, union}
 use Rattle.closure.proofs.RowLaws.{union-true}
 
 pub turned-twice : (e : Bool) (r : Row) → turned e (turned e r) ≡ r

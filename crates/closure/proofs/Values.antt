@@ -6,7 +6,7 @@ use lib.ListN.{length}
 use Rattle.table.specs.Table.{Table, nodeAt}
 use Rattle.ctl.specs.Rule.{Operator, constant, atom, negation, conjunction, disjunction, next, release, operatorOf}
 use Rattle.circuit.specs.Variables.{Var, step, kept, node, edge, ahead, either, level, valueOf, value}
-use Rattle.closure.specs.Row.{turned}
+use Rattle.rows.specs.Row.{turned}
 use Rattle.closure.specs.Memory.{Knowledge}
 use Rattle.closure.specs.Rest.{Rest}
 use Rattle.closure.specs.Inside.{literal}

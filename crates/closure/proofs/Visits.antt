@@ -7,11 +7,11 @@ use borrow.Author.Tests.{eqb-true}
 use lib.Dec.{eqb}
 use Rattle.sets.specs.Member.{member}
 use Rattle.table.proofs.Bools.{and-parts}
-use Rattle.closure.specs.declared.row.Row.{Row}
+use Rattle.rows.specs.declared.row.Row.{Row}
 use Rattle.closure.specs.declared.net.Net.{Net}
 use Rattle.closure.specs.declared.level.Fixpoint.{Fixpoint}
 use Rattle.closure.specs.declared.levels.Seen.{Seen}
-use Rattle.closure.specs.Row.{sameRow}
+use Rattle.rows.specs.Row.{sameRow}
 use Rattle.closure.specs.Memory.{Memory}
 use Rattle.closure.specs.Sweep.{passed, levelAt, alike, levelLook, levelVisit, nodeLook, nodeVisit}
 

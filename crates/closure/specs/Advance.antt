@@ -10,7 +10,7 @@ use Rattle.table.specs.Table.{Table}
 use Rattle.circuit.specs.Logic.{Literal}
 use Rattle.circuit.specs.Variables.{Var}
 use Rattle.circuit.specs.Clauses.{clauses}
-use Rattle.closure.specs.declared.row.Report.{Report}
+use Rattle.rows.specs.declared.row.Report.{Report}
 use Rattle.closure.specs.Closure.{Forced}
 use Rattle.closure.specs.Memory.{Memory, Knowledge, knowledge, Sized, levelTotal, total}
 use Rattle.closure.specs.Inside.{Inside, Clash}

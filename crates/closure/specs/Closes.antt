@@ -11,8 +11,9 @@ use Rattle.circuit.specs.Logic.{Literal}
 use Rattle.circuit.specs.Variables.{Var, step}
 use Rattle.circuit.specs.Clauses.{clauses}
 use Rattle.closure.specs.Closure.{Fails}
-use Rattle.closure.specs.Row.{known}
-use Rattle.closure.specs.Memory.{Memory, knowledge, stepPlace, rowAt, Sized, levelTotal}
+use Rattle.rows.specs.Row.{known}
+use Rattle.rows.specs.Words.{stepPlace, rowAt}
+use Rattle.closure.specs.Memory.{Memory, knowledge, Sized, levelTotal}
 use Rattle.closure.specs.Inside.{literal, Inside}
 use Rattle.closure.specs.Advance.{ForcedBy}
 

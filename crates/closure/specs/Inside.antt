@@ -7,8 +7,8 @@ use Rattle.table.specs.Table.{Table, stepAt, nodeAt}
 use Rattle.ctl.specs.Rule.{Quantifier, release, operatorOf}
 use Rattle.circuit.specs.Logic.{Literal}
 use Rattle.circuit.specs.Variables.{Var, step, kept, level, value}
-use Rattle.closure.specs.declared.row.Row.{Row}
-use Rattle.closure.specs.Row.{known}
+use Rattle.rows.specs.declared.row.Row.{Row}
+use Rattle.rows.specs.Row.{known}
 use Rattle.closure.specs.Memory.{Knowledge}
 
 abbrev pub literal : Bool → Var → Literal Var

@@ -1,10 +1,8 @@
 pub mod Closure
 pub mod Given
 pub mod Numbered
-pub mod Row
 pub mod Memory
-pub mod Rules
-pub mod Back
+pub mod Dual
 pub mod Rest
 pub mod Inside
 pub mod Advance

@@ -1,51 +1,23 @@
--- Where the rows lie. Row k of a list of words is the words at 2 k and 2 k + 1. `rows` has a row for the steps out of each state (0 to 31),
+-- Where the rows lie. `rows` has a row for the steps out of each state (0 to 31),
 -- for each node (32 to 63) and for K (64); `words` has those of the levels 1 to n - 1 of each fixed-point node, one node after the other.
 -- Level 0 is b's row, and level n the node's own.
 use Prim.Native.Nat.{ℕ, zero, suc, _+_, _*_, _-_, _≤_, _<_, _^_}
 use mathlib.Core.Path.{_≡_}
-use mathlib.Core.Bool.{Bool, true, not, cond, _||_}
+use mathlib.Core.Bool.{cond}
 use mathlib.Core.List.{List, [], _∷_}
 use lib.Dec.{eqb}
-use lib.ListN.{length, getD, set, take}
-use Rattle.sets.specs.Member.{member}
+use lib.ListN.{length, getD, take}
 use Rattle.table.specs.Table.{Table, nodeAt}
 use Rattle.table.specs.declared.record.Node.{Node}
 use Rattle.ctl.specs.Rule.{Operator, constant, atom, negation, conjunction, disjunction, next, release, operatorOf}
-use Rattle.closure.specs.declared.row.Row.{Row}
-use Rattle.closure.specs.declared.row.Report.{Report}
-use Rattle.closure.specs.Row.{union, clashes}
-
--- ---- rows in a list of words
-
-abbrev pub rowAt : List ℕ → ℕ → Row
-rowAt ws at = record { yes = getD ws at 0; no = getD ws (at + 1) 0 }
-
--- with what x knows added to the row at a place
-abbrev pub joined : List ℕ → ℕ → Row → List ℕ
-joined ws at x = set (set ws at (union (rowAt ws at) x .yes)) (at + 1) (union (rowAt ws at) x .no)
-
--- whether that added a bit, and whether something is now known both ways
-abbrev pub reportOf : List ℕ → ℕ → Row → Report
-reportOf ws at x = record {
-  changed = not (eqb (union (rowAt ws at) x .yes) (getD ws at 0)) || not (eqb (union (rowAt ws at) x .no) (getD ws (at + 1) 0));
-  fails = clashes (union (rowAt ws at) x);
-}
-
-abbrev pub bothReports : Report → Report → Report
-bothReports a b = record { changed = a .changed || b .changed; fails = a .fails || b .fails }
-
--- nothing was added, and nothing is known both ways
-abbrev pub quiet : Report → Bool
-quiet r = not (r .changed || r .fails)
+use Rattle.rows.specs.declared.row.Row.{Row}
+use Rattle.rows.specs.Words.{rowAt, SmallRow, stepPlace}
 
 -- ---- the memory of a closure
 
 pub record Memory : Type 0 where
   pub rows : List ℕ
   pub words : List ℕ
-
-abbrev pub stepPlace : ℕ → ℕ
-stepPlace s = 2 * s
 
 abbrev pub nodePlace : ℕ → ℕ
 nodePlace i = 64 + 2 * i
@@ -84,9 +56,6 @@ pub record Knowledge : Type 0 where
   pub levels : ℕ → ℕ → Row
 
 -- its rows are of machine words
-abbrev pub SmallRow : Row → Type 0
-SmallRow r = (r .yes < 2 ^ 32) × (r .no < 2 ^ 32)
-
 pub record Small (K : Knowledge) : Type 0 where
   pub steps : (s : ℕ) → SmallRow (K .steps s)
   pub kept : SmallRow (K .kept)

@@ -1,4 +1,4 @@
--- Propagation as a function of the memory: each rule of Rules.antt applied where its rows lie, at every state, node and level. The code's
+-- Propagation as a function of the memory: each rule of `rows` applied where its rows lie, at every state, node and level. The code's
 -- contracts equate it with these.
 use Prim.Native.Nat.{ℕ, zero, suc, _+_, _*_, _-_}
 use mathlib.Core.Bool.{Bool, true, false, cond, _&&_, _||_}
@@ -9,17 +9,19 @@ use Rattle.sets.specs.Member.{member, setOf}
 use Rattle.table.specs.Table.{Table, tableOf, nodeAt, statesPart}
 use Rattle.table.specs.StateSets.{labelledWord}
 use Rattle.ctl.specs.Rule.{Quantifier, every, some, Operator, constant, atom, negation, conjunction, disjunction, next, release, operatorOf}
-use Rattle.closure.specs.declared.row.Row.{Row}
-use Rattle.closure.specs.declared.row.Report.{Report}
+use Rattle.rows.specs.declared.row.Row.{Row}
+use Rattle.rows.specs.declared.row.Report.{Report}
 use Rattle.closure.specs.declared.net.Net.{Net}
 use Rattle.closure.specs.declared.level.Fixpoint.{Fixpoint}
 use Rattle.closure.specs.declared.levels.Seen.{Seen}
-use Rattle.closure.specs.declared.join.Joined.{Joined}
-use Rattle.closure.specs.declared.join.Family.the-variants.{Release}
-use Rattle.closure.specs.Row.{turned, sameRow}
-use Rattle.closure.specs.Rules.{isEvery, row, newOf, isNone, aheadRow, andOutput, andInput, joinOf, keptRow, keptSteps, openStarts, startKept, startRoot, constantRow}
-use Rattle.closure.specs.Memory.{Memory, rowAt, joined, reportOf, bothReports, quiet, stepPlace, nodePlace, keptPlace}
-use Rattle.closure.specs.Back.{quietReport, backRows, backRow, backReport}
+use Rattle.rows.specs.declared.family.Joined.{Joined}
+use Rattle.rows.specs.declared.family.Family.the-variants.{Release}
+use Rattle.rows.specs.Row.{turned, sameRow}
+use Rattle.rows.specs.Rules.{row, newOf, isNone, aheadRow, andOutput, andInput, joinOf, keptRow, keptSteps, openStarts, startKept, startRoot, constantRow}
+use Rattle.closure.specs.Dual.{isEvery}
+use Rattle.rows.specs.Words.{rowAt, joined, reportOf, bothReports, quiet, stepPlace}
+use Rattle.closure.specs.Memory.{Memory, nodePlace, keptPlace}
+use Rattle.rows.specs.Back.{quietReport, backRows, backRow, backReport}
 
 -- ---- one thing after the other
 

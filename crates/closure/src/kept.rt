@@ -1,48 +1,17 @@
 // K of each state with its steps, and the demands of the initial states.
-use crate::row::Report;
-use crate::row::Row;
-use crate::row::add;
-use crate::row::both;
-use crate::row::is_only;
-use crate::row::row_at;
+use rows::Report;
+use rows::Row;
+use rows::add;
+use rows::both;
+use rows::is_only;
+use rows::kept_row;
+use rows::kept_steps;
+use rows::row_at;
 ghost use mathlib.Core.Path.{_≡_};
 ghost use mathlib.Core.List.{List};
 ghost use Prim.Native.Nat.{ℕ, _≤_, _<_};
 ghost use lib.ListN.{length};
-ghost use Rattle.closure.specs.Rules.{keptRow, keptSteps};
 ghost use Rattle.closure.specs.Sweep.{memory, stepped, eachBelow, keptStep, startStep};
-
-// What the steps out of s add to K.
-fn kept_row(s: usize, target: u32, step: Row) -> Row
-    requires { ⌜ s < 32 ⌝ }
-    ensures { λ r. ⌜ r ≡ keptRow s target step ⌝ }
-{
-    Row {
-        yes: step.yes | sets::insert_if(0, s, step.yes != 0),
-        no: sets::insert_if(0, s, target & !step.no == 0),
-    }
-}
-
-// What K adds to the steps out of s.
-fn kept_steps(s: usize, target: u32, step: Row, kept: Row) -> Row
-    ensures { λ r. ⌜ r ≡ keptSteps s target step kept ⌝ }
-{
-    let left = target & !step.no;
-    let last = if sets::contains(kept.yes, s) && is_only(left) {
-        left
-    } else {
-        0
-    };
-    let own = if sets::contains(kept.no, s) {
-        target
-    } else {
-        0
-    };
-    Row {
-        yes: last,
-        no: own | target & kept.no,
-    }
-}
 
 fn kept_step(targets: &[u32], rows: &mut [u32], s: usize) -> Report
     requires { ⌜ (s < 32) × ((length (now targets) ≡ 32) × (length (now rows) ≡ 130)) ⌝ }

@@ -1,16 +1,16 @@
 // A level of a fixed-point node: level 0 is the row of b and level n that of the node, the others lie in the lent words from `base` on.
-use crate::ahead::ahead;
-use crate::ahead::go_back;
-use crate::join::Family;
-use crate::join::Joined;
-use crate::join::join;
-use crate::row::Report;
-use crate::row::Row;
-use crate::row::add;
-use crate::row::both;
-use crate::row::is_none;
-use crate::row::row_at;
-use crate::row::turn;
+use rows::Family;
+use rows::Joined;
+use rows::Report;
+use rows::Row;
+use rows::add;
+use rows::ahead;
+use rows::both;
+use rows::go_back;
+use rows::is_none;
+use rows::join;
+use rows::row_at;
+use rows::turn;
 ghost use mathlib.Core.Path.{_≡_};
 ghost use Prim.Native.Nat.{_≤_, _<_};
 ghost use lib.ListN.{length};

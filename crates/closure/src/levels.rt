@@ -2,11 +2,11 @@
 use crate::level::Fixpoint;
 use crate::level::level_row;
 use crate::level::level_step;
-use crate::row::Report;
-use crate::row::Row;
-use crate::row::both;
-use crate::row::is_quiet;
-use crate::row::is_same;
+use rows::Report;
+use rows::Row;
+use rows::both;
+use rows::is_quiet;
+use rows::is_same;
 ghost use mathlib.Core.Path.{_≡_};
 ghost use Prim.Native.Nat.{_≤_, _<_};
 ghost use lib.ListN.{length};

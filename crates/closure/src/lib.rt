@@ -1,20 +1,15 @@
 // The closure of a set of literals, by unit propagation over rows of machine words.
-mod ahead;
 mod bases;
-mod join;
 mod kept;
 mod level;
 mod levels;
 mod net;
 mod node;
 mod nodes;
-mod row;
 mod sweep;
 
 pub use bases::Bases;
 pub use bases::level_bases;
 pub use net::Net;
-pub use row::Report;
-pub use row::Row;
 pub use sweep::Closure;
 pub use sweep::close;

@@ -1,17 +1,20 @@
 // The rules of a node, by its kind.
-use crate::ahead::ahead;
-use crate::ahead::go_back;
-use crate::join::Family;
 use crate::level::Fixpoint;
 use crate::levels::levels_step;
-use crate::row::Report;
-use crate::row::Row;
-use crate::row::add;
-use crate::row::both;
-use crate::row::is_none;
-use crate::row::new_of;
-use crate::row::row_at;
-use crate::row::turn;
+use rows::Family;
+use rows::Report;
+use rows::Row;
+use rows::add;
+use rows::ahead;
+use rows::and_input;
+use rows::and_output;
+use rows::both;
+use rows::constant_row;
+use rows::go_back;
+use rows::is_none;
+use rows::new_of;
+use rows::row_at;
+use rows::turn;
 use table::Node;
 ghost use mathlib.Core.Path.{_≡_};
 ghost use mathlib.Core.Bool.{true, cond};
@@ -20,18 +23,7 @@ ghost use lib.Dec.{eqb};
 ghost use Prim.Native.Nat.{ℕ, _+_, _*_, _-_, _≤_, _<_};
 ghost use lib.ListN.{length, getD};
 ghost use Rattle.ctl.specs.Rule.{operatorOf};
-ghost use Rattle.closure.specs.Rules.{constantRow, andOutput, andInput};
 ghost use Rattle.closure.specs.Sweep.{memory, stepped, sameStep, bothStep, nextStep, nodeStep};
-
-// Of n states, those of a set true and the others false.
-fn constant_row(n: usize, set: u32) -> Row
-    ensures { λ r. ⌜ r ≡ constantRow n set ⌝ }
-{
-    Row {
-        yes: set,
-        no: sets::below(n) & !set,
-    }
-}
 
 // One input: what is known passes both ways.
 fn same_step(rows: &mut [u32], i: usize, same: bool, a: usize) -> Report
@@ -42,24 +34,6 @@ fn same_step(rows: &mut [u32], i: usize, same: bool, a: usize) -> Report
     let first = add(rows, 64 + 2 * i, turn(same, x));
     let g = row_at(rows, 64 + 2 * i);
     both(first, add(rows, 64 + 2 * a, turn(same, g)))
-}
-
-fn and_output(g: Row, a: Row, b: Row) -> Row
-    ensures { λ r. ⌜ r ≡ andOutput g a b ⌝ }
-{
-    Row {
-        yes: g.yes | a.yes & b.yes,
-        no: g.no | (a.no | b.no),
-    }
-}
-
-fn and_input(g: Row, other: Row) -> Row
-    ensures { λ r. ⌜ r ≡ andInput g other ⌝ }
-{
-    Row {
-        yes: g.yes,
-        no: g.no & other.yes,
-    }
 }
 
 // AND of two inputs; OR is its dual.

@@ -1,9 +1,9 @@
 // All nodes of a table. A node that added nothing stays at rest until something is added, and is passed over until then.
 use crate::net::Net;
 use crate::node::node_step;
-use crate::row::Report;
-use crate::row::both;
-use crate::row::is_quiet;
+use rows::Report;
+use rows::both;
+use rows::is_quiet;
 ghost use mathlib.Core.Path.{_≡_};
 ghost use Prim.Native.Nat.{_≤_, _<_};
 ghost use lib.ListN.{length};

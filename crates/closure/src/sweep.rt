@@ -4,7 +4,7 @@ use crate::kept::start_step;
 use crate::net::Net;
 use crate::nodes::Visited;
 use crate::nodes::nodes_step;
-use crate::row::both;
+use rows::both;
 ghost use mathlib.Core.Path.{_≡_};
 ghost use Rattle.table.specs.Table.{tableOf};
 ghost use Rattle.closure.specs.Memory.{Sized};

@@ -15,10 +15,11 @@ use Rattle.table.specs.Table.{Table, stepAt, nodeAt}
 use Rattle.table.specs.Facts.{Wellformed}
 use Rattle.circuit.specs.Logic.{Literal}
 use Rattle.circuit.specs.Variables.{Var, step}
-use Rattle.closure.specs.declared.row.Row.{Row}
+use Rattle.rows.specs.declared.row.Row.{Row}
 use Rattle.closure.specs.Closure.{given}
-use Rattle.closure.specs.Row.{known}
-use Rattle.closure.specs.Memory.{Sized, rowAt, stepPlace, nodePlace, keptPlace, levelBase}
+use Rattle.rows.specs.Row.{known}
+use Rattle.rows.specs.Words.{rowAt, stepPlace}
+use Rattle.closure.specs.Memory.{Sized, nodePlace, keptPlace, levelBase}
 use Rattle.closure.specs.Sweep.{memory}
 use Rattle.closure.specs.Inside.{literal, RowIn, StepsIn}
 use Rattle.closure.specs.Advance.{ForcedBy}

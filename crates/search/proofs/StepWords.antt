@@ -10,8 +10,8 @@ use lib.Dec.{eqb, ltb}
 use lib.ListN.{getD}
 use Rattle.sets.specs.Member.{member, setOf}
 use Rattle.sets.proofs.SetOf.{member-setOf}
-use Rattle.closure.specs.Row.{known}
-use Rattle.closure.specs.Memory.{rowAt, stepPlace}
+use Rattle.rows.specs.Row.{known}
+use Rattle.rows.specs.Words.{rowAt, stepPlace}
 use Rattle.closure.proofs.RowLaws.{member-below}
 use Rattle.search.specs.StepRows.{wordOf}
 

@@ -12,8 +12,9 @@ use Rattle.sets.proofs.Laws.{member-zero}
 use Rattle.table.specs.Table.{Table, nodeAt}
 use Rattle.circuit.specs.Logic.{Literal}
 use Rattle.circuit.specs.Variables.{Var}
-use Rattle.closure.specs.Row.{known}
-use Rattle.closure.specs.Memory.{Sized, rowAt, stepPlace, nodePlace, keptPlace, levelRow, levelBase, levelTotal}
+use Rattle.rows.specs.Row.{known}
+use Rattle.rows.specs.Words.{rowAt, stepPlace}
+use Rattle.closure.specs.Memory.{Sized, nodePlace, keptPlace, levelRow, levelBase, levelTotal}
 use Rattle.closure.specs.Sweep.{memory}
 use Rattle.closure.specs.Closes.{Between}
 

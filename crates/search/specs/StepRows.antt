@@ -8,8 +8,8 @@ use Rattle.sets.specs.Member.{member, setOf}
 use Rattle.table.specs.declared.record.Step.{Step}
 use Rattle.table.specs.Table.{Table, stepAt}
 use Rattle.ctl.specs.Levels.{tabulate}
-use Rattle.closure.specs.Row.{known}
-use Rattle.closure.specs.Memory.{rowAt, stepPlace}
+use Rattle.rows.specs.Row.{known}
+use Rattle.rows.specs.Words.{rowAt, stepPlace}
 
 -- the word of the steps out of s that are known with this sign
 abbrev pub wordOf : Bool → ℕ → ℕ

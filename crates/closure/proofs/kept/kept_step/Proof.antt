@@ -2,8 +2,9 @@
 use mathlib.Core.Path.{ap, ap₂, _∙_}
 use lib.ListN.{getD}
 use denote.Ref.{now}
-use Rattle.closure.specs.Rules.{keptRow, keptSteps}
-use Rattle.closure.specs.Memory.{stepPlace, keptPlace}
+use Rattle.rows.specs.Rules.{keptRow, keptSteps}
+use Rattle.rows.specs.Words.{stepPlace}
+use Rattle.closure.specs.Memory.{keptPlace}
 use Rattle.closure.specs.Sweep.{keptStep}
 use Rattle.closure.proofs.Chain.{added, after-add}
 use borrow.Author.Needs.{needs}

@@ -5,10 +5,11 @@ use mathlib.Core.Logic.{⊎-elim}
 use lib.Bits.{bitAnd}
 use lib.Dec.{eqb}
 use denote.Ref.{now}
-use Rattle.closure.specs.declared.row.Row.{Row}
-use Rattle.closure.specs.Row.{only}
-use Rattle.closure.specs.Rules.{openStarts, startKept, startRoot}
-use Rattle.closure.specs.Memory.{rowAt, nodePlace, keptPlace}
+use Rattle.rows.specs.declared.row.Row.{Row}
+use Rattle.rows.specs.Row.{only}
+use Rattle.rows.specs.Rules.{openStarts, startKept, startRoot}
+use Rattle.rows.specs.Words.{rowAt}
+use Rattle.closure.specs.Memory.{nodePlace, keptPlace}
 use Rattle.closure.specs.Sweep.{failing, memory, startStep}
 use Rattle.closure.proofs.Chain.{after-add}
 use borrow.Author.Needs.{needs}

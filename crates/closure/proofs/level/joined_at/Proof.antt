@@ -5,9 +5,9 @@ use native.Mathlib.Numerals.{add-one}
 use native.Mathlib.Omega.{arith}
 use denote.Ref.{now}
 use lib.ListN.{getD}
-use Rattle.closure.specs.Row.{turned}
-use Rattle.closure.specs.Rules.{aheadRow, joinOf}
-use Rattle.closure.specs.Memory.{rowAt, stepPlace}
+use Rattle.rows.specs.Row.{turned}
+use Rattle.rows.specs.Rules.{aheadRow, joinOf}
+use Rattle.rows.specs.Words.{rowAt, stepPlace}
 use Rattle.closure.specs.Sweep.{memory, aheadIn, levelAt}
 use borrow.Author.Needs.{needs}
 use Rattle.closure.proofs.level.joined_at.Statement.{statement}

@@ -1,9 +1,9 @@
 -- `level_back` meets its contract: nothing where N knows nothing new, else back to the steps, then to the level below.
 use mathlib.Core.Path.{sym, ap, _∙_}
 use denote.Ref.{now}
-use Rattle.closure.specs.declared.row.Row.{Row}
-use Rattle.closure.specs.Row.{turned}
-use Rattle.closure.specs.Back.{backRows, backRow, backReport}
+use Rattle.rows.specs.declared.row.Row.{Row}
+use Rattle.rows.specs.Row.{turned}
+use Rattle.rows.specs.Back.{backRows, backRow, backReport}
 use Rattle.closure.specs.Sweep.{memory, addLevel}
 use Rattle.closure.proofs.Chain.{after}
 use borrow.Author.Needs.{needs}

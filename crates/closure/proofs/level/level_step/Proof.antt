@@ -1,8 +1,8 @@
 -- `level_step` meets its contract: the join of the level is added, then what it says is taken back to the steps and the level below.
 use mathlib.Core.Path.{_≡_, ap, _∙_}
 use denote.Ref.{now}
-use Rattle.closure.specs.declared.row.Row.{Row}
-use Rattle.closure.specs.declared.join.Joined.{Joined}
+use Rattle.rows.specs.declared.row.Row.{Row}
+use Rattle.rows.specs.declared.family.Joined.{Joined}
 use Rattle.closure.specs.Sweep.{memory, goBackMore, levelAt, addLevel, addJoined, joinedAt, levelStep}
 use Rattle.closure.proofs.Chain.{after, fits-on}
 use borrow.Author.Needs.{needs}

@@ -2,7 +2,7 @@
 use mathlib.Core.Path.{_≡_, sym, _∙_}
 use mathlib.Core.Bool.{Bool, true, false, _&&_}
 use borrow.Author.Tests.{not-true, not-false}
-use Rattle.closure.specs.Row.{sameRow}
+use Rattle.rows.specs.Row.{sameRow}
 use borrow.Author.Needs.{needs}
 use Rattle.closure.proofs.levels.is_alike.Statement.{statement}
 use Rattle.closure.proofs.levels.is_alike.Tie as tie

@@ -4,7 +4,7 @@ use mathlib.Core.Path.{_≡_, sym, ap, _∙_}
 use native.Mathlib.Numerals.{add-one}
 use denote.Ref.{now}
 use Rattle.closure.specs.declared.levels.Seen.{Seen}
-use Rattle.closure.specs.Memory.{quiet}
+use Rattle.rows.specs.Words.{quiet}
 use Rattle.closure.specs.Sweep.{Stepped, Visit, memory, levelAt, alike}
 use Rattle.closure.proofs.Visits.{visit-alike, visit-other}
 use borrow.Author.Needs.{needs}

@@ -2,8 +2,8 @@
 use mathlib.Core.Path.{ap, ap₂, _∙_}
 use native.Mathlib.Omega.{arith}
 use denote.Ref.{now}
-use Rattle.closure.specs.Row.{turned}
-use Rattle.closure.specs.Rules.{andOutput, andInput}
+use Rattle.rows.specs.Row.{turned}
+use Rattle.rows.specs.Rules.{andOutput, andInput}
 use Rattle.closure.specs.Memory.{nodePlace}
 use Rattle.closure.proofs.Chain.{added, after-add}
 use borrow.Author.Needs.{needs}

@@ -4,12 +4,13 @@ use mathlib.Core.Bool.{Bool, true, false, _||_, or-false}
 use native.Mathlib.Omega.{arith}
 use lib.ListN.{getD}
 use denote.Ref.{now}
-use Rattle.closure.specs.declared.row.Row.{Row}
-use Rattle.closure.specs.declared.row.Report.{Report}
-use Rattle.closure.specs.Row.{turned}
-use Rattle.closure.specs.Rules.{aheadRow, newOf, isNone}
-use Rattle.closure.specs.Memory.{rowAt, stepPlace, nodePlace, bothReports}
-use Rattle.closure.specs.Back.{quietReport, backRows, backRow, backReport}
+use Rattle.rows.specs.declared.row.Row.{Row}
+use Rattle.rows.specs.declared.row.Report.{Report}
+use Rattle.rows.specs.Row.{turned}
+use Rattle.rows.specs.Rules.{aheadRow, newOf, isNone}
+use Rattle.rows.specs.Words.{rowAt, stepPlace, bothReports}
+use Rattle.closure.specs.Memory.{nodePlace}
+use Rattle.rows.specs.Back.{quietReport, backRows, backRow, backReport}
 use Rattle.closure.specs.Sweep.{memory, stepped, addRow, nodeRow, goBackMore}
 use Rattle.closure.proofs.Chain.{added, after, after-add}
 use borrow.Author.Needs.{needs}

@@ -13,8 +13,8 @@ use Rattle.sets.proofs.SetOf.{setOf-unique, setOf-lt, member-setOf, empty}
 use Rattle.table.specs.StateSets.{labelledWord}
 use Rattle.ctl.specs.Rule.{Operator}
 use Rattle.ctl.proofs.OfKind.{of-kind, no-kind}
-use Rattle.closure.specs.declared.join.Family.the-variants.{Release}
-use Rattle.closure.specs.Rules.{constantRow}
+use Rattle.rows.specs.declared.family.Family.the-variants.{Release}
+use Rattle.rows.specs.Rules.{constantRow}
 use Rattle.closure.specs.Memory.{nodePlace}
 use Rattle.closure.specs.Sweep.{memory, levelsFrom, nodeStep}
 use Rattle.closure.proofs.Chain.{added}

@@ -1,7 +1,7 @@
 -- Two rows are added, the second worked out from the rows with the first.
 use mathlib.Core.Path.{ap, _∙_}
 use denote.Ref.{now}
-use Rattle.closure.specs.Row.{turned}
+use Rattle.rows.specs.Row.{turned}
 use Rattle.closure.specs.Memory.{Memory, nodePlace}
 use Rattle.closure.specs.Sweep.{nodeRow, addRow}
 use Rattle.closure.proofs.Chain.{added, after}

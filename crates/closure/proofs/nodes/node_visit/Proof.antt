@@ -11,7 +11,7 @@ use Rattle.sets.specs.Member.{member, setOf}
 use Rattle.table.specs.declared.record.Node.{Node}
 use Rattle.table.specs.Table.{tableOf, nodeAt}
 use Rattle.ctl.specs.Rule.{operatorOf}
-use Rattle.closure.specs.Memory.{quiet}
+use Rattle.rows.specs.Words.{quiet}
 use Rattle.closure.specs.Sweep.{Stepped, Visit, memory, stepped, nodeStep}
 use Rattle.closure.proofs.Visits.{visit-resting, visit-node}
 use Rattle.closure.proofs.SettingFacts.{few-states, few-nodes, node-here, levels-in}

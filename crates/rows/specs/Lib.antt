@@ -1,0 +1,4 @@
+pub mod Row
+pub mod Rules
+pub mod Words
+pub mod Back
