@@ -24,8 +24,8 @@ use Rattle.sheet.specs.declared.answer.Read.{Read}
 use Rattle.sheet.specs.declared.answer.Read.the-variants.{Length, Refused as ReadRefused}
 use Rattle.sheet.specs.Form.{ascii, decimal, ended, line}
 use Rattle.sheet.specs.Read.{readAnswer, readBuffer}
-use Rattle.sheet.proofs.Number.{low-length}
-use Rattle.sheet.proofs.Bounds.{more-digits, ended-length}
+use Rattle.render.proofs.Number.{low-length}
+use Rattle.render.proofs.Bounds.{more-digits, ended-length}
 use Rattle.repair.specs.Outcome.{repairVerdict, answerAt, answerOf, repairList}
 use Rattle.report.specs.Report.{refused, keptLine, keptLines, answerText, zeros, cap, tableText, readText, limited, fitText}
 use Rattle.report.proofs.Accepted.{read-accepted}

@@ -1,8 +1,8 @@
 // What is printed of each answer.
 use crate::lines::write_answer;
 use crate::steps::write_steps;
+use render::put_bytes;
 use repair::Answer;
-use sheet::put_bytes;
 use table::Refusal;
 use table::counts_of;
 use table::refusal_number;
@@ -10,7 +10,7 @@ use table::steps_part;
 ghost use Prim.Native.Nat.{_≤_};
 ghost use lib.ListN.{length};
 ghost use Rattle.table.specs.Table.{countsOf};
-ghost use Rattle.sheet.specs.Render.{Room, Stored};
+ghost use Rattle.render.specs.Render.{Room, Stored};
 ghost use Rattle.repair.specs.declared.answer.Answer.the-variants.{Found};
 ghost use Rattle.report.specs.Report.{refused, answerText};
 

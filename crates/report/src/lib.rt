@@ -13,7 +13,7 @@ ghost use Prim.Native.Nat.{_≤_};
 ghost use lib.ListN.{length, drop};
 ghost use Rattle.table.specs.declared.refusal.Verdict.the-variants.{Accepted};
 ghost use Rattle.table.specs.Accept.{tableVerdict};
-ghost use Rattle.sheet.specs.Render.{Room, Stored};
+ghost use Rattle.render.specs.Render.{Room, Stored};
 ghost use Rattle.report.specs.Report.{tableText, fitText};
 
 // The most bytes that are taken.

@@ -1,8 +1,8 @@
 // The two lines that every answer begins with.
+use render::put_bytes;
+use render::put_field;
 use sheet::NEWLINE;
-use sheet::put_bytes;
-use sheet::put_field;
-ghost use Rattle.sheet.specs.Render.{Room, Stored};
+ghost use Rattle.render.specs.Render.{Room, Stored};
 ghost use Rattle.report.specs.Report.{answerLines};
 
 pub fn write_answer(text: &mut [u8], names: &[u8], word: &[u8], number: usize) -> usize

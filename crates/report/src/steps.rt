@@ -1,10 +1,10 @@
 // The lines of the steps: from, to and whether the step is kept.
-use sheet::write_triple;
+use render::write_triple;
 use table::step_at;
 ghost use Prim.Native.Nat.{_≤_};
 ghost use lib.ListN.{length};
 ghost use Rattle.table.specs.Table.{records, stepOf, stepWidth};
-ghost use Rattle.sheet.specs.Render.{Room, Stored};
+ghost use Rattle.render.specs.Render.{Room, Stored};
 ghost use Rattle.report.specs.Report.{keptLines};
 
 pub fn write_steps(section: &[u8], count: usize, list: &[u8], text: &mut [u8], at: usize) -> usize

@@ -10,13 +10,5 @@ pub mod Blocks
 pub mod Stores
 pub mod Packing
 pub mod Outcome
-pub mod Left
-pub mod Number
-pub mod Sections
-pub mod Parts
-pub mod Ranges
-pub mod Bounds
-pub mod RenderOutcome
-pub mod RoundTrip
 pub mod Sample
 pub mod Readings

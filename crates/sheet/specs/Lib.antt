@@ -2,4 +2,3 @@ pub mod Form
 pub mod Parse
 pub mod Place
 pub mod Read
-pub mod Render

@@ -1,8 +1,7 @@
-// The sheet: text in, a packed table or a refusal out, and back. Knows nothing of what a formula means.
+// The sheet: text in, a packed table or a refusal out. Knows nothing of what a formula means.
 mod answer;
 mod block;
 mod copy;
-mod emit;
 mod field;
 mod form;
 mod line;
@@ -12,15 +11,14 @@ mod place;
 mod put;
 mod reader;
 mod skip;
-mod write_block;
-mod write_line;
-mod writer;
 
 pub use answer::Read;
-pub use answer::Rendered;
-pub use emit::put_bytes;
-pub use emit::put_field;
+pub use copy::copy_front;
 pub use field::NEWLINE;
+pub use field::SPACE;
+pub use field::ZERO;
+pub use names::COUNTS_NAMES;
+pub use names::NODES_NAMES;
+pub use names::STATES_NAMES;
+pub use names::STEPS_NAMES;
 pub use reader::read;
-pub use write_line::write_triple;
-pub use writer::render_table;

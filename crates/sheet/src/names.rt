@@ -1,4 +1,4 @@
-// The four lines of names, which the reader compares and the writer writes.
+// The four lines of names, which the reader compares and the crate `render` writes.
 use crate::place::Place;
 ghost use mathlib.Core.Path.{_≡_};
 ghost use lib.ListN.{drop};

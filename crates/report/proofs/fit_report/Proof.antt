@@ -12,7 +12,7 @@ use Rattle.table.specs.Accept.{tableVerdict}
 use Rattle.sheet.specs.declared.answer.Read.{Read}
 use Rattle.sheet.specs.declared.answer.Read.the-variants.{Length}
 use Rattle.sheet.specs.Read.{readAnswer}
-use Rattle.sheet.proofs.Left.{room-as, stored-as}
+use Rattle.render.proofs.Left.{room-as, stored-as}
 use Rattle.report.specs.Report.{zeros, readText, fitText}
 use Rattle.report.proofs.Accepted.{read-short, read-accepted}
 use Rattle.report.proofs.Cases.{too-long, text-read, text-room, stored-front}

@@ -5,7 +5,7 @@ use denote.Ref.{now}
 use borrow.Author.Needs.{needs}
 use Rattle.table.specs.Table.{countsOf}
 use Rattle.table.proofs.Accepted.{header-accepted, counts-within}
-use Rattle.sheet.proofs.Left.{room-as, stored-as}
+use Rattle.render.proofs.Left.{room-as, stored-as}
 use Rattle.report.specs.Report.{answerText, tableText}
 use Rattle.report.proofs.report_table.Statement.{statement}
 use Rattle.report.proofs.report_table.Tie as tie

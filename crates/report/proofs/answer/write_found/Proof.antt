@@ -8,7 +8,7 @@ use borrow.Author.Needs.{needs}
 use Rattle.table.specs.declared.counts.Counts.{Counts}
 use Rattle.table.specs.Table.{records, stepOf, stepWidth, stepsOf}
 use Rattle.sheet.specs.Form.{ascii}
-use Rattle.sheet.proofs.Left.{Left, left-all, left-room, left-room-all, left-next, left-end, room-as, stored-as}
+use Rattle.render.proofs.Left.{Left, left-all, left-room, left-room-all, left-next, left-end, room-as, stored-as}
 use Rattle.report.specs.Report.{counted, keptLines}
 use Rattle.report.proofs.answer.write_found.Statement.{statement}
 use Rattle.report.proofs.answer.write_found.Tie as tie

@@ -4,7 +4,7 @@ use mathlib.Core.List.{List}
 use denote.Ref.{now}
 use borrow.Author.Needs.{needs}
 use Rattle.sheet.specs.Form.{ascii}
-use Rattle.sheet.proofs.Left.{room-as, stored-as}
+use Rattle.render.proofs.Left.{room-as, stored-as}
 use Rattle.report.specs.Report.{answerLines}
 use Rattle.report.proofs.answer.write_refused.Statement.{statement}
 use Rattle.report.proofs.answer.write_refused.Tie as tie

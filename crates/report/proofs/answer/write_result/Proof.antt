@@ -2,7 +2,7 @@
 use mathlib.Core.Path.{_≡_, sym, ap}
 use denote.Ref.{now}
 use borrow.Author.Needs.{needs}
-use Rattle.sheet.proofs.Left.{room-as, stored-as}
+use Rattle.render.proofs.Left.{room-as, stored-as}
 use Rattle.repair.specs.declared.answer.Answer.{Answer}
 use Rattle.report.specs.Report.{answerText}
 use Rattle.report.proofs.answer.write_result.Statement.{statement}

@@ -4,7 +4,7 @@ use mathlib.Core.List.{List, [], _∷_, _++_}
 use denote.Ref.{now}
 use borrow.Author.Needs.{needs}
 use Rattle.sheet.specs.Form.{line}
-use Rattle.sheet.proofs.Left.{Left, left-all, left-room, left-room-all, left-next, left-end}
+use Rattle.render.proofs.Left.{Left, left-all, left-room, left-room-all, left-next, left-end}
 use Rattle.report.specs.Report.{answerLines}
 use Rattle.report.proofs.lines.write_answer.Statement.{statement}
 use Rattle.report.proofs.lines.write_answer.Tie as tie

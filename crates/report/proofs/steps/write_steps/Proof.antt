@@ -4,7 +4,7 @@ use mathlib.Core.List.{_++_}
 use native.Mathlib.Omega.{arith}
 use lib.ListN.{getD}
 use denote.Ref.{now}
-use Rattle.sheet.proofs.Left.{Left, left-all, left-as, left-room, left-next, left-done}
+use Rattle.render.proofs.Left.{Left, left-all, left-as, left-room, left-next, left-done}
 use Rattle.report.specs.Report.{keptLine}
 use Rattle.report.proofs.Kept.{keptFrom, kept-next, kept-done}
 use Rattle.report.proofs.steps.write_steps.Statement.{statement}

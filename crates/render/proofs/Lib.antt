@@ -1,0 +1,9 @@
+pub mod Left
+pub mod Number
+pub mod Sections
+pub mod Parts
+pub mod Ranges
+pub mod Bounds
+pub mod RenderOutcome
+pub mod RoundTrip
+pub mod Sample
