@@ -5,8 +5,8 @@ use native.Mathlib.Omega.{arith}
 use mathlib.Core.Path.{_≡_, refl, sym, ap, _∙_}
 use mathlib.Core.Bool.{true, false, false≢true}
 use lib.ListN.{length, List·getD-eq-default}
-use Rattle.table.specs.declared.nodes.Shape.{Shape}
-use Rattle.table.specs.declared.nodes.Shape.the-variants.{Unknown}
+use Rattle.table.specs.declared.shape.Shape.{Shape}
+use Rattle.table.specs.declared.shape.Shape.the-variants.{Unknown}
 use Rattle.table.specs.Table.{Table, nodeAt}
 use Rattle.table.specs.Facts.{Wellformed}
 use Rattle.table.specs.Accept.{shapes, shapeOf, fieldsFit}

@@ -90,12 +90,12 @@ fn analysed(table: &[u8], list: &[u8], n: usize, f: usize) -> Analysis
 pub fn analyse(table: &[u8], list: &[u8], room: Room) -> Analysis
     ensures { λ r. ⌜ r ≡ analysisOf room (now (table .entry)) (now (list .entry)) ⌝ }
 {
-    let first = table::check_table(table);
+    let first = accept::check_table(table);
     if let Verdict::Refused(refusal) = first {
         return refused(refusal);
     }
     let c = table::counts_of(table);
-    let second = table::check_list(list, c.steps);
+    let second = accept::check_list(list, c.steps);
     if let Verdict::Refused(refusal) = second {
         return refused(refusal);
     }

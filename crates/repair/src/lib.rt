@@ -26,7 +26,7 @@ pub fn repair(
     ensures { λ _. ⌜ now (bytes .exit) ≡ repairBytes (now (table .entry)) cap (now (list .entry)) (now (bytes .entry)) (now (words .entry)) ⌝ }
     ensures { λ _. ⌜ now (words .exit) ≡ repairWords (now (table .entry)) cap (now (list .entry)) (now (bytes .entry)) (now (words .entry)) ⌝ }
 {
-    if let Verdict::Refused(refusal) = table::check_table(table) {
+    if let Verdict::Refused(refusal) = accept::check_table(table) {
         return Answer::Refused(refusal);
     }
     let c = table::counts_of(table);

@@ -17,7 +17,7 @@ fn stepped() -> [u8; 361] {
 }
 
 fn print_checked(table: &[u8], sample: &[u8]) {
-    print_sample(table::verdict_number(table::check_table(table)), sample);
+    print_sample(table::verdict_number(accept::check_table(table)), sample);
 }
 
 // The node, true, stands behind the last step that counts.

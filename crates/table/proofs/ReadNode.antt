@@ -7,8 +7,8 @@ use native.Mathlib.Omega.{arith}
 use borrow.Author.Tests.{ltb-true, eqb-true}
 use lib.Dec.{ltb, eqb}
 use lib.ListN.{length, drop}
-use Rattle.table.specs.declared.nodes.Shape.{Shape}
-use Rattle.table.specs.declared.nodes.Shape.the-variants.{Constant, Proposition, Unary, Binary, Unknown}
+use Rattle.table.specs.declared.shape.Shape.{Shape}
+use Rattle.table.specs.declared.shape.Shape.the-variants.{Constant, Proposition, Unary, Binary, Unknown}
 use Rattle.table.specs.declared.record.Node.{Node}
 use Rattle.table.specs.declared.refusal.Verdict.the-variants.{Accepted}
 use Rattle.table.specs.Table.{tableOf, nodesPart, nodeAt, nodeOf, nodeWidth, countsOf}

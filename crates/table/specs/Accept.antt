@@ -5,8 +5,8 @@ use mathlib.Core.List.{List, [], _∷_}
 use lib.ListN.{length, getD}
 use lib.Dec.{leb, ltb, eqb}
 use Rattle.table.specs.declared.counts.Counts.{Counts}
-use Rattle.table.specs.declared.nodes.Shape.{Shape}
-use Rattle.table.specs.declared.nodes.Shape.the-variants.{Constant, Proposition, Unary, Binary, Unknown}
+use Rattle.table.specs.declared.shape.Shape.{Shape}
+use Rattle.table.specs.declared.shape.Shape.the-variants.{Constant, Proposition, Unary, Binary, Unknown}
 use Rattle.table.specs.declared.record.State.{State}
 use Rattle.table.specs.declared.record.Step.{Step}
 use Rattle.table.specs.declared.record.Node.{Node}

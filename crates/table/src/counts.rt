@@ -7,7 +7,6 @@ use crate::width::STEP_WIDTH;
 ghost use mathlib.Core.Path.{_≡_};
 ghost use Prim.Native.Nat.{_<_};
 ghost use Rattle.table.specs.Table.{countsOf, packedLength};
-ghost use Rattle.table.specs.Accept.{countsFit};
 
 pub struct Counts {
     pub states: usize,
@@ -25,27 +24,6 @@ pub fn counts_of(table: &[u8]) -> Counts
         nodes: byte_at(table, 2),
         props: byte_at(table, 3),
     }
-}
-
-pub fn counts_fit(c: Counts) -> bool
-    ensures { λ r. ⌜ r ≡ countsFit c ⌝ }
-{
-    if c.states < 1 {
-        return false;
-    }
-    if 32 < c.states {
-        return false;
-    }
-    if 128 < c.steps {
-        return false;
-    }
-    if c.nodes < 1 {
-        return false;
-    }
-    if 32 < c.nodes {
-        return false;
-    }
-    c.props <= 16
 }
 
 // How long a table of these counts is.

@@ -1,25 +1,17 @@
-// The packed table: bytes in, an accepted table or its refusal out. Knows nothing of what a formula means.
-mod check;
+// The packed table: its counts, sections and records, and the numbers of the refusals. Knows nothing of what a formula means.
 mod counts;
-mod list;
-mod nodes;
 mod part;
 mod record;
 mod refusal;
 mod section;
+mod shape;
 mod state_sets;
-mod states;
-mod steps;
 mod targets;
 mod width;
 
-pub use check::check_table;
 pub use counts::Counts;
 pub use counts::counts_of;
 pub use counts::packed_length;
-pub use list::check_list;
-pub use nodes::Shape;
-pub use nodes::shape_of;
 pub use record::Node;
 pub use record::State;
 pub use record::Step;
@@ -33,6 +25,8 @@ pub use refusal::verdict_number;
 pub use section::nodes_part;
 pub use section::states_part;
 pub use section::steps_part;
+pub use shape::Shape;
+pub use shape::shape_of;
 pub use state_sets::initial_states;
 pub use state_sets::labelled_states;
 pub use targets::target_sets;

@@ -21,7 +21,7 @@ struct Expected {
 
 // The check, and of an accepted table its variables.
 fn run_table(t: Tally, e: Expected, table: &[u8]) -> Tally {
-    let number = table::verdict_number(table::check_table(table));
+    let number = table::verdict_number(accept::check_table(table));
     let next = with_vector(t, e.number, number as usize == e.number);
     if 0 < e.number {
         return next;
@@ -30,7 +30,7 @@ fn run_table(t: Tally, e: Expected, table: &[u8]) -> Tally {
 }
 
 fn run_list(t: Tally, e: Expected, list: &[u8]) -> Tally {
-    let number = table::verdict_number(table::check_list(list, e.count));
+    let number = table::verdict_number(accept::check_list(list, e.count));
     with_vector(t, e.number, number as usize == e.number)
 }
 
