@@ -197,7 +197,7 @@ startStep initial root M =
 
 -- ---- a sweep: K, the initial states, and each node, up or down. `resting` has nodes that are at rest
 
--- the nodes at rest after a step: with one more after its own, where nothing was added, else none
+-- the nodes at rest after the step of node i: those before it and i, where it added nothing; else none
 abbrev pub restingAfter : Report → ℕ → ℕ → ℕ
 restingAfter r i resting = cond (quiet r) (setOf 32 (λ t. member resting t || eqb t i)) 0
 

@@ -46,6 +46,24 @@ module _ (table list : List ℕ) (room : ℕ) (a : Analysis) (e : a ≡ analysis
       let few = held-few (tableOf table) (packed (States room) table list a e ok .table) list in
       omega (arith, few, leb-true (length (tableOf table .states)) room (room-accepted (States room) table list (passed (States room) table list a e ok)))
 
+returns-2 : tie.Need-returns-2
+returns-2 c =
+    let a = c .before .before .before .before .before .before .before .before .before .before .before .args in
+    let t = now (a .table) in
+    let l = now (a .list) in
+    let out = now (a .out) in
+    let n = length out in
+    let A = c .before .before .before .before .before .before .before .analyse .result in
+    let E = c .before .before .before .before .before .before .before .analyse .ensures in
+    let ok = c .before .before .before .before .before .enum-told .given .1 in
+    let v = sym (verdict-is (States n) t l A E) ∙ ok in
+    let root = root-is (States n) t l A E ok in (
+      ap Count (c .count .ensures ∙ count-is t l n A E ok (A .root) root) ∙ sym (ap (λ (x : Verdict). holdingAt x (length (heldStates (tableOf t) l))) v),
+      c .before .before .before .write-states .ensures
+          ∙ ap (λ (xs : List ℕ). xs ++ drop (length xs) out) (states-are t l n A E ok (A .root) root)
+          ∙ sym (ap (λ (x : Verdict). onAccepted x (heldStates (tableOf t) l ++ drop (length (heldStates (tableOf t) l)) out) out) v),
+    )
+
 analyse-requires : tie.Need-analyse-requires
 analyse-requires c κs = search needs
 
@@ -83,24 +101,6 @@ count-requires c κs = search needs
 
 same-length : tie.Need-same-length
 same-length c = search needs
-
-returns-2 : tie.Need-returns-2
-returns-2 c =
-    let a = c .before .before .before .before .before .before .before .before .before .before .before .args in
-    let t = now (a .table) in
-    let l = now (a .list) in
-    let out = now (a .out) in
-    let n = length out in
-    let A = c .before .before .before .before .before .before .before .analyse .result in
-    let E = c .before .before .before .before .before .before .before .analyse .ensures in
-    let ok = c .before .before .before .before .before .enum-told .given .1 in
-    let v = sym (verdict-is (States n) t l A E) ∙ ok in
-    let root = root-is (States n) t l A E ok in (
-      ap Count (c .count .ensures ∙ count-is t l n A E ok (A .root) root) ∙ sym (ap (λ (x : Verdict). holdingAt x (length (heldStates (tableOf t) l))) v),
-      c .before .before .before .write-states .ensures
-          ∙ ap (λ (xs : List ℕ). xs ++ drop (length xs) out) (states-are t l n A E ok (A .root) root)
-          ∙ sym (ap (λ (x : Verdict). onAccepted x (heldStates (tableOf t) l ++ drop (length (heldStates (tableOf t) l)) out) out) v),
-    )
 
 pub holding-states-spec : {M : Type 1} → statement M
 holding-states-spec =

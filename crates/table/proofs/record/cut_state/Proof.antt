@@ -10,6 +10,15 @@ use borrow.Author.Needs.{needs}
 use Rattle.table.proofs.record.cut_state.Statement.{statement}
 use Rattle.table.proofs.record.cut_state.Tie as tie
 
+returns-2 : tie.Need-returns-2
+returns-2 c =
+    let a = c .before .before .before .before .before .args in
+    let l = now (a .section) in
+    λ i. record {
+      initial = (c .byte-at3 .ensures ∙ sym (field-first (stateWidth * a .i) l)) i;
+      label = (ap₂ (λ (x y : ℕ). x + 256 * y) (c .before .before .byte-at .ensures ∙ sym (getD-drop (stateWidth * a .i) l 1 0)) (c .before .byte-at2 .ensures ∙ sym (getD-drop (stateWidth * a .i) l 2 0))) i;
+    }
+
 returns : tie.Need-returns
 returns c =
     let a = c .before .before .args in
@@ -38,15 +47,6 @@ mul-t7 c = omega (arith, c .before .byte-at2 .ensures, c .before .before .before
 
 add-t9 : tie.Need-add-t9
 add-t9 c = omega (arith, c .before .byte-at2 .ensures, c .before .before .byte-at .ensures, c .before .before .before .before .shared-slice-known .given (stateWidth * c .before .before .before .before .before .args .i + 2), c .before .before .before .before .shared-slice-known .given (stateWidth * c .before .before .before .before .before .args .i + 1))
-
-returns-2 : tie.Need-returns-2
-returns-2 c =
-    let a = c .before .before .before .before .before .args in
-    let l = now (a .section) in
-    λ i. record {
-      initial = (c .byte-at3 .ensures ∙ sym (field-first (stateWidth * a .i) l)) i;
-      label = (ap₂ (λ (x y : ℕ). x + 256 * y) (c .before .before .byte-at .ensures ∙ sym (getD-drop (stateWidth * a .i) l 1 0)) (c .before .byte-at2 .ensures ∙ sym (getD-drop (stateWidth * a .i) l 2 0))) i;
-    }
 
 pub cut-state-spec : {M : Type 1} → statement M
 cut-state-spec =

@@ -10,6 +10,16 @@ use borrow.Author.Needs.{needs}
 use Rattle.table.proofs.record.node_at.Statement.{statement}
 use Rattle.table.proofs.record.node_at.Tie as tie
 
+returns-2 : tie.Need-returns-2
+returns-2 c =
+    let a = c .before .before .before .before .before .args in
+    let l = now (a .section) in
+    λ i. record {
+      kind = sym (field-first (nodeWidth * a .i) l) i;
+      a = sym (getD-drop (nodeWidth * a .i) l 1 0) i;
+      b = sym (getD-drop (nodeWidth * a .i) l 2 0) i;
+    }
+
 cut-node-requires : tie.Need-cut-node-requires
 cut-node-requires c κs = search needs
 
@@ -42,16 +52,6 @@ shared-slice-read-t14 c = search needs
 
 cast-t15 : tie.Need-cast-t15
 cast-t15 c = omega (arith, c .shared-slice-known4 .given (nodeWidth * c .before .before .before .before .before .args .i + 2))
-
-returns-2 : tie.Need-returns-2
-returns-2 c =
-    let a = c .before .before .before .before .before .args in
-    let l = now (a .section) in
-    λ i. record {
-      kind = sym (field-first (nodeWidth * a .i) l) i;
-      a = sym (getD-drop (nodeWidth * a .i) l 1 0) i;
-      b = sym (getD-drop (nodeWidth * a .i) l 2 0) i;
-    }
 
 pub node-at-spec : {M : Type 1} → statement M
 node-at-spec =

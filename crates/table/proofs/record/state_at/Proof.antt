@@ -10,6 +10,15 @@ use borrow.Author.Needs.{needs}
 use Rattle.table.proofs.record.state_at.Statement.{statement}
 use Rattle.table.proofs.record.state_at.Tie as tie
 
+returns-2 : tie.Need-returns-2
+returns-2 c =
+    let a = c .before .before .before .before .before .args in
+    let l = now (a .section) in
+    λ i. record {
+      initial = sym (field-first (stateWidth * a .i) l) i;
+      label = ap₂ (λ (x y : ℕ). x + 256 * y) (sym (getD-drop (stateWidth * a .i) l 1 0)) (sym (getD-drop (stateWidth * a .i) l 2 0)) i;
+    }
+
 cut-state-requires : tie.Need-cut-state-requires
 cut-state-requires c κs = search needs
 
@@ -48,15 +57,6 @@ mul-t7 c = omega (arith, c .shared-slice-known4 .given (stateWidth * c .before .
 
 add-t13 : tie.Need-add-t13
 add-t13 c = omega (arith, c .shared-slice-known4 .given (stateWidth * c .before .before .before .before .before .args .i + 1), c .shared-slice-known4 .given (stateWidth * c .before .before .before .before .before .args .i + 2))
-
-returns-2 : tie.Need-returns-2
-returns-2 c =
-    let a = c .before .before .before .before .before .args in
-    let l = now (a .section) in
-    λ i. record {
-      initial = sym (field-first (stateWidth * a .i) l) i;
-      label = ap₂ (λ (x y : ℕ). x + 256 * y) (sym (getD-drop (stateWidth * a .i) l 1 0)) (sym (getD-drop (stateWidth * a .i) l 2 0)) i;
-    }
 
 pub state-at-spec : {M : Type 1} → statement M
 state-at-spec =

@@ -10,6 +10,12 @@ use borrow.Author.Needs.{needs}
 use Rattle.table.proofs.record.step_at.Statement.{statement}
 use Rattle.table.proofs.record.step_at.Tie as tie
 
+returns-2 : tie.Need-returns-2
+returns-2 c =
+    let a = c .before .before .before .before .args in
+    let l = now (a .section) in
+    λ i. record { from = sym (field-first (stepWidth * a .i) l) i; to = sym (getD-drop (stepWidth * a .i) l 1 0) i }
+
 cut-step-requires : tie.Need-cut-step-requires
 cut-step-requires c κs = search needs
 
@@ -33,12 +39,6 @@ shared-slice-read-t10 c = search needs
 
 cast-t11 : tie.Need-cast-t11
 cast-t11 c = omega (arith, c .shared-slice-known3 .given (stepWidth * c .before .before .before .before .args .i + 1))
-
-returns-2 : tie.Need-returns-2
-returns-2 c =
-    let a = c .before .before .before .before .args in
-    let l = now (a .section) in
-    λ i. record { from = sym (field-first (stepWidth * a .i) l) i; to = sym (getD-drop (stepWidth * a .i) l 1 0) i }
 
 pub step-at-spec : {M : Type 1} → statement M
 step-at-spec =
