@@ -4,10 +4,8 @@ use table::Step;
 use table::Verdict;
 use table::step_at;
 ghost use mathlib.Core.Path.{_≡_};
-ghost use mathlib.Core.List.{List};
-ghost use mathlib.Core.Bool.{true, false};
-ghost use Prim.Native.Nat.{ℕ, _≤_, _<_, _+_};
-ghost use lib.ListN.{length, take};
+ghost use mathlib.Core.Bool.{false};
+ghost use Prim.Native.Nat.{_≤_, _<_, _+_};
 ghost use Rattle.table.specs.Table.{records, stepOf, stepWidth};
 ghost use Rattle.table.specs.Accept.{stepFits, stepsVerdict};
 

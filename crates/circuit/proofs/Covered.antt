@@ -1,8 +1,8 @@
 -- Every literal of a table's clauses is over a variable of the table, and no clause is empty.
 use Prim.Native.Nat.{ℕ, _<_}
 use native.Mathlib.Omega.{arith}
-use mathlib.Core.Path.{_≡_, refl, subst}
-use mathlib.Core.List.{[], List·Memᴰ, List·Memᴰ·head, List·Memᴰ·not-nil, Memᴰ·map, Memᴰ·append-left, Memᴰ·append-right}
+use mathlib.Core.Path.{refl}
+use mathlib.Core.List.{[], List·Memᴰ, List·Memᴰ·head, Memᴰ·map, Memᴰ·append-left, Memᴰ·append-right}
 use lib.ListN.{length}
 use Rattle.table.specs.Table.{Table, nodeAt}
 use Rattle.table.specs.Facts.{Wellformed}
@@ -67,7 +67,3 @@ module _ (T : Table) (wf : Wellformed T) where
       (λ j h. (_, List·Memᴰ·head refl))
       (let i = wf .some-initial in (pos (kept (i .0)), Memᴰ·map (λ s. pos (kept s)) (in-initials T (i .0) .1 (i .1, i .2))))
       (λ s i. (_, List·Memᴰ·head refl)))
-
-  -- No clause is empty.
-  pub clause-nonempty : (C : Clause) → List·Memᴰ C (clauses T) → ¬ (C ≡ [])
-  clause-nonempty C m e = let r = clause-literal C m in List·Memᴰ·not-nil (subst (List·Memᴰ (r .0)) e (r .1))

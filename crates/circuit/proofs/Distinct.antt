@@ -27,7 +27,7 @@ kindOf (either i m s) = 5
 kindOf (level i m s) = 6
 
 -- its node
-abbrev nodeOf : Var → ℕ
+abbrev pub nodeOf : Var → ℕ
 nodeOf (step j) = 0
 nodeOf (kept s) = 0
 nodeOf (node i s) = i

@@ -12,9 +12,10 @@ use Rattle.table.specs.Facts.{Wellformed}
 use Rattle.ctl.specs.Rule.{Quantifier, every, some, Operator, constant, atom, negation, conjunction, disjunction, next, release, operatorOf}
 use Rattle.ctl.proofs.BottomUp.{OfChildren, of-children}
 use Rattle.circuit.specs.Logic.{Literal, pos, neg, Gate, all}
-use Rattle.circuit.specs.Variables.{Var, step, node, edge, ahead, either, level, stepsOut, valueOf, value}
+use Rattle.circuit.specs.Variables.{Var, step, node, edge, ahead, either, level, stepsOut, value}
 use Rattle.circuit.specs.Gates.{Defined, edgeGate, aheadGate, constantGate, is, atStates, edges, levelGates, nodeGates, keptGates, gates}
 use Rattle.circuit.proofs.Lists.{Each, each-more, each-one, each-append, each-map, each-over}
+use Rattle.circuit.proofs.Value.{value-cases}
 use Rattle.circuit.proofs.Gate.{beq-sign, makes, gateValue}
 use Rattle.circuit.proofs.Quantified.{quantified, join, quantified-same, quantified-map}
 use Rattle.circuit.proofs.Evaluate.{edgeValue, shape, shapeAt, keeps, keptValue, aheadValue, levelValue, valuesOf, nodeValue, node-value, levelOf, assignment}
@@ -83,16 +84,8 @@ module _ (T : Table) (list : List ℕ) where
   -- the variable of X has its value: level n for a kind with levels
   pub value-right : Wellformed T → (i : ℕ) → i < length (T .nodes) → (s : ℕ) → α (value T i s) ≡ nodeValue T list i s
   unfolding assignment valuesOf
-  value-right wf i h s = go (operatorOf (nodeAt T i)) refl
-    where
-      go : (o : Operator) → operatorOf (nodeAt T i) ≡ o → α (valueOf T o i s) ≡ nodeValue T list i s
-      go (constant b) e = refl
-      go (atom p) e = refl
-      go (negation a) e = refl
-      go (conjunction a b) e = refl
-      go (disjunction a b) e = refl
-      go (next q a) e = refl
-      go (release q a b) e = ap (λ (o : Operator). levelOf T list (shape o) (length (T .states)) s) e ∙ sym (node-is wf i h (release q a b) e s)
+  value-right wf i h s = value-cases T (λ v. α v ≡ nodeValue T list i s) i s refl
+      (λ q a b e. ap (λ (o : Operator). levelOf T list (shape o) (length (T .states)) s) e ∙ sym (node-is wf i h (release q a b) e s))
 
   module _ (i : ℕ) (q : Quantifier) (a b : ℕ) (is-shape : shapeAt T i ≡ (q, a, b)) where
     -- level m of node i

@@ -13,6 +13,7 @@ pub mod Clauses
 pub mod Covered
 pub mod Settled
 pub mod Evaluate
+pub mod Value
 pub mod GatesRight
 pub mod Marked
 pub mod Models

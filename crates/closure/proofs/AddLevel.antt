@@ -15,13 +15,12 @@ use Rattle.ctl.specs.Rule.{Quantifier, release, operatorOf}
 use Rattle.circuit.specs.Logic.{Literal}
 use Rattle.circuit.specs.Variables.{Var, level}
 use Rattle.rows.specs.declared.row.Row.{Row}
-use Rattle.rows.specs.declared.family.Family.the-variants.{Release}
 use Rattle.closure.specs.declared.level.Fixpoint.{Fixpoint}
 use Rattle.rows.specs.Words.{rowAt, SmallRow}
 use Rattle.closure.specs.Memory.{Memory, Sized, nodePlace, levelSize, levelBase, levelTotal}
 use Rattle.closure.specs.Inside.{RowIn}
 use Rattle.closure.specs.Advance.{ForcedBy}
-use Rattle.closure.specs.Sweep.{addRow, addWord, addLevel}
+use Rattle.closure.specs.Sweep.{addRow, addWord, fixpointAt, addLevel}
 use Rattle.closure.proofs.ClashSound.{clash-in}
 use Rattle.closure.proofs.LevelsFit.{level-apart, level-place}
 use Rattle.closure.proofs.NodeSound.{in-first, in-last}
@@ -34,7 +33,7 @@ use Rattle.closure.proofs.InsideParts.{release-b, release-below, wordPl
 
 -- the node, its children and where its levels lie
 abbrev pub fixpoint : Table → ℕ → Bool → ℕ → ℕ → Fixpoint
-fixpoint T i e a b = record { family = Release; node = i; a = a; b = b; every = e; base = levelBase T i }
+fixpoint T i e a b = fixpointAt i e a b (levelBase T i)
 
 module _ (T : Table) (i : ℕ) (q : Quantifier) (a b : ℕ) (h : i < length (T .nodes)) (op : operatorOf (nodeAt T i) ≡ release q a b)
     (m : ℕ) (some : 0 < m) (few : m < length (T .states)) where
@@ -62,7 +61,7 @@ module _ (T : Table) (wf : Wellformed T) (M : Memory) (sized : Sized T M) (x : R
     (i : ℕ) (q : Quantifier) (a b : ℕ) (h : i < length (T .nodes)) (op : operatorOf (nodeAt T i) ≡ release q a b) where
   advance-word : (m : ℕ) → 0 < m → m < length (T .states) → Given T M (λ S. RowIn T S (level i m) x)
       → Advances T (λ K. Quiet x (rowAt (M .words) (wordPlace T i m))) M (addWord (wordPlace T i m) x M)
-  advance-word m some few given = add-word T M sized (wordPlace T i m) x small place (record {
+  advance-word m some few given = add-word T M sized (wordPlace T i m) x small (word-fits T i q a b h op m some few) (record {
     keeps = λ P inside. inside-of T wf (ForcedBy T P) (closed T P) (addWord (wordPlace T i m) x M .memory) (inside .steps) (inside .kept) (inside .nodes)
         (λ k r c d j l o s f. joined-so (RowIn T (ForcedBy T P) (level k j)) (union-in T (ForcedBy T P) (level k j)) (M .words) (wordPlace T i m) x fits
         (wordPlace T k j) (suits (ForcedBy T P) (given P inside) k r c d j l o s f (ℕ-discrete k i) (ℕ-discrete j m))
@@ -71,11 +70,8 @@ module _ (T : Table) (wf : Wellformed T) (M : Memory) (sized : Sized T M) (x : R
         (union-in T (ForcedBy T P) (level i m) _ x (inner-of T wf (ForcedBy T P) (closed T P) M inside i q a b m h op some few) (given P inside)) c;
   })
     where
-      place : wordPlace T i m + 1 < levelTotal T
-      place = word-fits T i q a b h op m some few
-
       fits : wordPlace T i m + 1 < length (M .words)
-      fits = omega (arith, place, sized .words-size)
+      fits = omega (arith, word-fits T i q a b h op m some few, sized .words-size)
 
       suits : (S : Literal Var → Type 0) → RowIn T S (level i m) x
           → (k : ℕ) (r : Quantifier) (c d j : ℕ) → k < length (T .nodes) → operatorOf (nodeAt T k) ≡ release r c d → 0 < j → j < length (T .states)

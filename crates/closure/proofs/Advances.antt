@@ -2,11 +2,11 @@
 use Prim.Native.Nat.{ℕ, zero, suc, _<_}
 use native.Mathlib.Nat.{not-suc-le-zero, lt-trans}
 use native.Mathlib.Omega.{arith}
-use native.Mathlib.Decide.{decLt}
 use mathlib.Core.Path.{_≡_, refl, sym, subst, _∙_}
 use mathlib.Core.Bool.{Bool, true, false, _||_, false≢true}
 use mathlib.Core.Logic.{⊎-elim}
 use mathlib.Core.List.{List}
+use borrow.Author.Count.{below-more}
 use borrow.Author.Tests.{not-true}
 use Rattle.table.specs.Table.{Table}
 use Rattle.table.proofs.Bools.{or-parts, or-neither}
@@ -18,6 +18,7 @@ use Rattle.closure.specs.Memory.{Memory, Knowledge, knowledge, Sized, to
 use Rattle.closure.specs.Inside.{Inside, Clash}
 use Rattle.closure.specs.Advance.{ForcedBy, Advance}
 use Rattle.closure.specs.Sweep.{Stepped, failing, Visit, eachWith, eachBelow, ordered}
+use Rattle.closure.proofs.Ordered.{ordered-below, ordered-twice}
 
 -- a step of the memory advances
 abbrev pub Advances : Table → (Knowledge → Type 0) → Memory → Stepped → Type 0
@@ -98,11 +99,7 @@ module _ (T : Table) where
   advance-with f Q R (suc n) step s M sized r =
       let before = advance-with f Q R n (λ k l. step k (omega arith)) s M sized r in
       let next = step n (omega arith) (eachWith f n s M .left) (eachWith f n s M .done .memory) (before .0 .sized) (before .1) in
-      (advance-so (λ q k l. all q k l (decLt k n)) (advance-then (before .0) (next .0)), next .1)
-    where
-      all : {K : Knowledge} → ((k : ℕ) → k < n → Q k K) × Q n K → (k : ℕ) → k < suc n → Dec (k < n) → Q k K
-      all q k l (yes h) = q .0 k h
-      all {K} q k l (no h) = let e : n ≡ k = omega (arith, h) in subst (λ (j : ℕ). Q j K) e (q .1)
+      (advance-so (λ q k l. below-more (λ k. Q k (knowledge T M)) n (q .0) (q .1) k (omega arith)) (advance-then (before .0) (next .0)), next .1)
 
   -- with nothing to leave
   pub advance-each : (f : ℕ → Memory → Stepped) (Q : ℕ → Knowledge → Type 0) (n : ℕ)
@@ -111,17 +108,7 @@ module _ (T : Table) where
   unfolding eachBelow
   advance-each f Q n step M sized = advance-with {S = Unit {0}} (λ k s M. record { done = f k M; left = s }) Q (λ s K. Unit {0}) n (λ k l s M z r. (step k l M z, tt)) tt M sized tt .0
 
--- ---- upward or downward
-
-ordered-below : (down : Bool) (n k : ℕ) → k < n → ordered down n k < n
-ordered-below true n k l = omega arith
-ordered-below false n k l = l
-
-ordered-twice : (down : Bool) (n k : ℕ) → k < n → ordered down n (ordered down n k) ≡ k
-ordered-twice true n k l = omega arith
-ordered-twice false n k l = refl
-
--- either way each number has its turn
+-- upward or downward, each number has its turn
 pub advance-ordered : (T : Table) (down : Bool) {S : Type 0} (f : ℕ → S → Memory → Visit S) (Q : ℕ → Knowledge → Type 0) (R : S → Knowledge → Type 0) (n : ℕ)
     → ((k : ℕ) → k < n → (s : S) (M : Memory) → Sized T M → R s (knowledge T M)
     → Advances T (Q k) M (f k s M .done) × R (f k s M .left) (knowledge T (f k s M .done .memory)))

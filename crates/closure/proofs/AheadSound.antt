@@ -22,7 +22,8 @@ use Rattle.rows.specs.Words.{SmallRow}
 use Rattle.rows.specs.Rules.{unmet, aheadRow, lastLeft, backSteps, backEnd}
 use Rattle.closure.specs.Dual.{isEvery}
 use Rattle.closure.specs.Inside.{literal, RowIn, StepsIn}
-use Rattle.closure.proofs.RowLaws.{empty-none, nonempty-some, member-below, and-true, unmet-true, without-small, target-true, target-small, turned-small}
+use Rattle.closure.proofs.RowLaws.{empty-none, nonempty-some, member-below, and-true, unmet-true, without-small, turned-small}
+use Rattle.closure.proofs.Ends.{target-true, target-small, out-target}
 use Rattle.closure.proofs.GateOf.{ClosedGate}
 use Rattle.closure.proofs.EdgeRules.{ClosedEdge, edge-struck, edge-end, edge-fails, kept-step, failed-end, struck-step, met-end, edge-and, ClosedAhead, ahead-up, ahead-down, ahead-fails, ahead-last, ahead-and}
 use Rattle.closure.proofs.SetsIn.{SetIn, set-cond, set-by, At, turned-in, in-turned, in-turned-not, steps-in, step-known, other-end}
@@ -62,14 +63,11 @@ module _ (T : Table) (wf : Wellformed T) (S : Literal Var → Type 0) (q : Quant
           out : (j < length (T .steps)) × (stepAt T j .from ≡ s)
           out = in-out T s j .0 m
 
-          target : member (targetSet (T .steps) s) t ≡ true
-          target = target-true T wf s t .1 (j, out .0, out .1, refl)
-
           go : (a : Bool) → member (x .no) t ≡ a → (b : Bool) → member (turned (isEvery q) E .yes) t ≡ b → S (literal (isEvery q) (gate j))
           go true f b g = edge-struck S (isEvery q) j (gate j) (end t) (closed-edge j m) (step-known T S wf s x steps j (out .0) (out .1) false f)
           go false f true g = edge-end S (isEvery q) j (gate j) (end t) (closed-edge j m) (in-turned T S (isEvery q) end E ends t g .1)
           go false f false g = absurd (false≢true (sym none ∙ unmet-true (targetSet (T .steps) s) x (turned (isEvery q) E) small-x (turned-small (isEvery q) E small-E) t .1
-              (member-below _ t (target-small (T .steps) s) target, target, f, g)))
+              (member-below _ t (target-small (T .steps) s) (out-target T wf s j m), out-target T wf s j m, f, g)))
 
       -- the last step left, where N is known false
       last-left : (A : Row) → RowIn T S N A

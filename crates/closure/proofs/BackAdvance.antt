@@ -3,10 +3,10 @@
 use Prim.Native.Nat.{ℕ, zero, suc, _^_, _≤_, _<_}
 use native.Mathlib.Nat.{not-suc-le-zero}
 use native.Mathlib.Omega.{arith}
-use native.Mathlib.Decide.{decLt}
 use mathlib.Core.Path.{_≡_, refl, sym, subst, _∙_}
 use mathlib.Core.Bool.{Bool, true, false, cond, _&&_, true≢false, false≢true}
 use mathlib.Core.List.{List}
+use borrow.Author.Count.{below-more}
 use lib.Bits.{bitAnd}
 use lib.ListN.{length, getD}
 use Rattle.sets.specs.Member.{member}
@@ -28,7 +28,8 @@ use Rattle.closure.specs.Inside.{RowIn, StepsIn, Inside}
 use Rattle.rows.specs.Back.{backRows, backRow, backReport}
 use Rattle.closure.specs.Advance.{ForcedBy}
 use Rattle.closure.specs.Sweep.{memory, Stepped, failing, goBack, goBackMore, addRow}
-use Rattle.closure.proofs.RowLaws.{cond-true, target-small, turned-small}
+use Rattle.closure.proofs.RowLaws.{cond-true, turned-small}
+use Rattle.closure.proofs.Ends.{target-small}
 use Rattle.closure.proofs.TurnedRows.{turned-union, turned-within, within-left, within-right}
 use Rattle.closure.proofs.RulesSmall.{none-small, back-steps-small, back-end-small}
 use Rattle.closure.proofs.NewRows.{none-known}
@@ -137,12 +138,8 @@ module _ (T : Table) (wf : Wellformed T) (targets : List ℕ) (ends : (s : ℕ) 
       let before = back-advance k (omega arith) in
       let now = advance-so T {Q = λ K. BackRest T q A E (row-of (suc k)) K k} (λ z. (z, one-end k l))
       (one-advance k l (memory (rows k) (M .words)) (before .sized) (advance-less before)) in
-      advance-so T (λ z s h. all (knowledge T M) z s h (decLt s k)) (advance-then T before now)
-    where
-      all : (K : Knowledge) → ((s : ℕ) → s < k → BackRest T q A E (row-of k) K s) × BackRest T q A E (row-of (suc k)) K k
-          → (s : ℕ) → s < suc k → Dec (s < k) → BackRest T q A E (row-of (suc k)) K s
-      all K z s h (yes g) = (z .0 s g .0, λ t sign m. row-next k t sign (z .0 s g .1 t sign m))
-      all K z s h (no g) = let e : k ≡ s = omega (arith, g) in subst (BackRest T q A E (row-of (suc k)) K) e (z .1)
+      advance-so T (λ z s h. below-more (BackRest T q A E (row-of (suc k)) (knowledge T M)) k
+      (λ s g. (z .0 s g .0, λ t sign m. row-next k t sign (z .0 s g .1 t sign m))) (z .1) s (omega arith)) (advance-then T before now)
 
   -- ---- the row of the ends
 

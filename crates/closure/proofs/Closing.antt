@@ -1,7 +1,7 @@
 -- From sweeps to the closure: what the rows reached so far have, and what a last sweep makes of it.
 use Prim.Native.Nat.{ℕ, suc, _+_, _*_, _-_, _^_, _≤_, _<_}
 use native.Mathlib.Omega.{arith}
-use mathlib.Core.Path.{_≡_, refl, sym, ap, subst, _∙_}
+use mathlib.Core.Path.{_≡_, refl, sym, subst, _∙_}
 use mathlib.Core.Bool.{Bool, true, false, cond, false≢true, true≢false}
 use mathlib.Core.List.{List, [], _∷_, List·Memᴰ}
 use lib.Dec.{eqb}
@@ -10,18 +10,14 @@ use Rattle.table.specs.Table.{Table, stepAt, nodeAt}
 use Rattle.table.specs.Facts.{Wellformed}
 use Rattle.circuit.specs.Logic.{Literal}
 use Rattle.circuit.specs.Variables.{Var, step}
-use Rattle.circuit.specs.Clauses.{clauses}
-use Rattle.rows.specs.declared.row.Row.{Row}
 use Rattle.rows.specs.declared.row.Report.{Report}
-use Rattle.closure.specs.Closure.{Fails}
-use Rattle.rows.specs.Row.{known}
 use Rattle.rows.specs.Words.{rowAt, SmallRow, stepPlace}
-use Rattle.closure.specs.Memory.{Memory, Knowledge, knowledge, Small, Sized, levelTotal, levelBase, levelRow, nodePlace, sum, total}
+use Rattle.closure.specs.Memory.{Memory, Knowledge, knowledge, Small, Sized, levelTotal, levelBase, nodePlace, sum, total}
 use Rattle.closure.specs.Rest.{Rest}
 use Rattle.closure.specs.Inside.{literal, Inside}
 use Rattle.closure.specs.Advance.{ForcedBy, Grows, Advance}
 use Rattle.closure.specs.Closes.{stepKnown, Between, Closes, Closed}
-use Rattle.closure.proofs.RowLaws.{target-true, same-ends}
+use Rattle.closure.proofs.Ends.{target-true, same-ends}
 use Rattle.closure.proofs.RestForced.{rest-forced}
 
 -- ---- sizes

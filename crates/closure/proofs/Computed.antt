@@ -1,10 +1,9 @@
 -- The function computes the closure: it clashes exactly when the closure fails, and else its marks hold exactly the forced literals.
 use Prim.Native.Nat.{ℕ, suc, _≤_, _<_}
-use mathlib.Core.Path.{_≡_, refl, sym, subst, _∙_}
+use mathlib.Core.Path.{_≡_, refl, sym, subst}
 use mathlib.Core.Bool.{Bool}
 use mathlib.Core.Logic.{_↔_, ⊎-elim}
 use mathlib.Core.List.{List, List·Memᴰ}
-use lib.ListN.{length, length-set}
 use Rattle.circuit.specs.Logic.{Literal, opposite}
 use Rattle.closure.specs.Closure.{Forced, given, unit, Fails, Marks, known, markAt, Progress, clash, marked, closure, marksOf}
 use Rattle.closure.specs.Given.{Given, Within, Inside, Consistent}
@@ -19,13 +18,6 @@ module _ (size : ℕ) (F : List (List (Literal ℕ))) (P : List (Literal ℕ)) w
   -- what is so of the given marks and kept by each new mark is so of the closure
   closure-reached : (I : Marks → Type 0) → Step F (λ m new. I m) → I (marksOf size P) → Reached F (λ m new. I m) (closure size F P)
   closure-reached I step = rounds-reached F (λ m new. I m) step (λ m new i. i) (suc size) (marksOf size P)
-
-  -- ---- as many marks as variables
-
-  -- a mark for each variable
-  pub closure-length : {m : Marks} {b : Bool} → closure size F P ≡ marked m b → length m ≡ size
-  closure-length e = subst (Reached F (λ m new. length m ≡ size)) e
-      (closure-reached (λ m. length m ≡ size) (λ C c m new i l h alone free. length-set m (l .var) (known (l .sign)) ∙ i) (given-length size P))
 
   -- ---- nothing is marked that is not forced
 

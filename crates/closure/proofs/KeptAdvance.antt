@@ -16,7 +16,8 @@ use Rattle.rows.specs.Rules.{keptRow, keptSteps, openStarts, startKept, startRo
 use Rattle.closure.specs.Rest.{initialSet, RestKept, RestStart}
 use Rattle.closure.specs.Advance.{ForcedBy}
 use Rattle.closure.specs.Sweep.{_andThen_, addRow, nodeRow, keptStep, startStep}
-use Rattle.closure.proofs.RowLaws.{set-small, target-small}
+use Rattle.closure.proofs.RowLaws.{set-small}
+use Rattle.closure.proofs.Ends.{target-small}
 use Rattle.closure.proofs.RulesSmall.{kept-small, kept-steps-small, start-kept-small, start-root-small}
 use Rattle.closure.proofs.KeptSound.{kept-row-in, kept-steps-in}
 use Rattle.closure.proofs.StartSound.{start-kept-in, start-root-in, start-clash}

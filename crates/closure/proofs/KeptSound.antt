@@ -22,7 +22,8 @@ use Rattle.rows.specs.Row.{only}
 use Rattle.rows.specs.Words.{SmallRow}
 use Rattle.rows.specs.Rules.{unstruck, keptRow, keptSteps}
 use Rattle.closure.specs.Inside.{RowIn, StepsIn}
-use Rattle.closure.proofs.RowLaws.{without-true, empty-none, nonempty-some, member-below, and-true, without-small, target-true, target-small}
+use Rattle.closure.proofs.RowLaws.{without-true, empty-none, nonempty-some, member-below, and-true, without-small}
+use Rattle.closure.proofs.Ends.{target-true, target-small, out-target}
 use Rattle.closure.proofs.Forced.{Closed}
 use Rattle.closure.proofs.GateOf.{kept-gate}
 use Rattle.closure.proofs.EdgeRules.{ClosedAhead, ahead-up, ahead-down, ahead-fails, ahead-last, ahead-and}
@@ -53,12 +54,9 @@ module _ (T : Table) (wf : Wellformed T) (S : Literal Var → Type 0) (closed : 
         out : (j < length (T .steps)) × (stepAt T j .from ≡ s)
         out = in-out T s j .0 m
 
-        target : member (targetSet (T .steps) s) t ≡ true
-        target = target-true T wf s t .1 (j, out .0, out .1, refl)
-
         go : (b : Bool) → member (x .no) t ≡ b → S (neg (step j))
         go true f = step-known T S wf s x steps j (out .0) (out .1) false f
-        go false f = absurd (false≢true (sym none ∙ without-true _ (x .no) t (small .1) .1 (member-below _ t (target-small (T .steps) s) target, target, f)))
+        go false f = absurd (false≢true (sym none ∙ without-true _ (x .no) t (small .1) .1 (member-below _ t (target-small (T .steps) s) (out-target T wf s j m), out-target T wf s j m, f)))
 
     -- a kept step keeps s and its end; s with no step left is not kept
     pub kept-row-in : RowIn T S kept (keptRow s (targetSet (T .steps) s) x)

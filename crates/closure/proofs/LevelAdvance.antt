@@ -15,7 +15,6 @@ use Rattle.circuit.specs.Logic.{Literal}
 use Rattle.circuit.specs.Variables.{Var, ahead, level, value}
 use Rattle.rows.specs.declared.row.Row.{Row}
 use Rattle.rows.specs.declared.family.Joined.{Joined}
-use Rattle.rows.specs.declared.family.Family.the-variants.{Release}
 use Rattle.closure.specs.declared.level.Fixpoint.{Fixpoint}
 use Rattle.closure.specs.declared.levels.Seen.{Seen}
 use Rattle.rows.specs.Row.{ClearAt, clashes}
@@ -26,7 +25,7 @@ use Rattle.closure.specs.Memory.{Memory, Knowledge, knowledge, Sized, no
 use Rattle.closure.specs.Rest.{RestLevel}
 use Rattle.closure.specs.Inside.{RowIn, Clash}
 use Rattle.closure.specs.Advance.{ForcedBy}
-use Rattle.closure.specs.Sweep.{Visit, nodeRow, addLevel, levelWith, levelStep, alike, nothingSeen, levelVisit, levelsFrom}
+use Rattle.closure.specs.Sweep.{Visit, nodeRow, fixpointAt, addLevel, levelWith, levelStep, alike, nothingSeen, levelVisit, levelsFrom}
 use Rattle.closure.proofs.Visits.{alike-parts, visit-alike, visit-other}
 use Rattle.closure.proofs.RowLaws.{clear-row}
 use Rattle.closure.proofs.RulesSmall.{either-small, join-level-small, join-a-small, join-b-small, join-ahead-small}
@@ -205,16 +204,16 @@ pub levels-advance : (T : Table) (wf : Wellformed T) (targets : List ℕ) → ((
     → (i : ℕ) → i < length (T .nodes) → (q : Quantifier) (a b : ℕ) → operatorOf (nodeAt T i) ≡ release q a b
     → (base : ℕ) → base ≡ levelBase T i → (down : Bool) (M : Memory) → Sized T M
     → Advances T (λ K. (m : ℕ) → m < length (T .states) → (s : ℕ) → s < length (T .states) → RestLevel T K q a b (K .levels i (suc m)) (K .levels i m) s) M
-    (levelsFrom targets (length (T .states)) (record { family = Release; node = i; a = a; b = b; every = isEvery q; base = base }) down (length (T .states)) M .done)
+    (levelsFrom targets (length (T .states)) (fixpointAt i (isEvery q) a b base) down (length (T .states)) M .done)
 levels-advance T wf targets ends i h q a b op base e down M sized =
-    advance-ordered T down (levelVisit targets (length (T .states)) (record { family = Release; node = i; a = a; b = b; every = isEvery q; base = base }))
+    advance-ordered T down (levelVisit targets (length (T .states)) (fixpointAt i (isEvery q) a b base))
     (λ m K. (s : ℕ) → s < length (T .states) → RestLevel T K q a b (K .levels i (suc m)) (K .levels i m) s)
     (λ v K. v .quiet ≡ true → (s : ℕ) → s < length (T .states) → RestLevel T K q a b (v .level) (v .below) s)
     (length (T .states)) one nothingSeen M sized (λ f. absurd (false≢true f)) .0
   where
     Visits : (a b base m : ℕ) (v : Seen) → Memory → Type 0
     Visits a b base m v N =
-        let z = levelVisit targets (length (T .states)) (record { family = Release; node = i; a = a; b = b; every = isEvery q; base = base }) m v N in
+        let z = levelVisit targets (length (T .states)) (fixpointAt i (isEvery q) a b base) m v N in
         Advances T (λ K. (s : ℕ) → s < length (T .states) → RestLevel T K q a b (K .levels i (suc m)) (K .levels i m) s) N (z .done)
         × (z .left .quiet ≡ true → (s : ℕ) → s < length (T .states) → RestLevel T (knowledge T (z .done .memory)) q a b (z .left .level) (z .left .below) s)
 

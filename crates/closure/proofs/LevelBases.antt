@@ -12,6 +12,7 @@ use Rattle.table.specs.declared.record.Node.{Node}
 use Rattle.table.specs.Table.{Table, tableOf, countsOf, nodesPart, nodeOf, headerWidth, stateWidth, stepWidth, nodeWidth, nodeAt}
 use Rattle.table.proofs.Accepted.{node-read}
 use Rattle.table.proofs.Numbers.{two}
+use Rattle.table.proofs.Past.{node-past}
 use Rattle.table.proofs.Records.{records-length}
 use Rattle.ctl.specs.Rule.{Operator, constant, atom, negation, conjunction, disjunction, next, release, operators, operatorOf}
 use Rattle.closure.specs.Memory.{levelSize, levelSizes, levelBase, levelTotal}
@@ -64,7 +65,7 @@ node-anywhere table i = go (decLt i (countsOf table .nodes))
         omega (arith, d, length-take (nodeWidth * countsOf table .nodes) part, min-le-left (nodeWidth * countsOf table .nodes) (length part)) in
         let few : length (tableOf table .nodes) ≤ i = omega (arith, d, records-length nodeOf nodeWidth (countsOf table .nodes) (nodesPart table)) in
         ap nodeOf (drop-of-length-le (nodesPart table) {i = nodeWidth * i} short)
-        ∙ sym (List·getD-eq-default (tableOf table .nodes) (record { kind = 0; a = 0; b = 0 }) {n = i} few)
+        ∙ sym (node-past (tableOf table) i few)
 
 module _ (T : Table) where
   -- past the last node, all words lie before
@@ -78,6 +79,6 @@ module _ (T : Table) where
       go : Dec (i < length (T .nodes)) → levelBase T (i + 1) ≡ levelBase T i + levelSize (length (T .states)) (operatorOf (nodeAt T i))
       go (yes h) = base-next T i h
       go (no d) =
-          let none : nodeAt T i ≡ record { kind = 0; a = 0; b = 0 } = List·getD-eq-default (T .nodes) (record { kind = 0; a = 0; b = 0 }) {n = i} (omega (arith, d)) in
-          let size : levelSize (length (T .states)) (operatorOf (nodeAt T i)) ≡ 0 = ap (λ (x : Node). levelSize (length (T .states)) (operatorOf x)) none in
+          let size : levelSize (length (T .states)) (operatorOf (nodeAt T i)) ≡ 0 =
+          ap (λ (x : Node). levelSize (length (T .states)) (operatorOf x)) (node-past T i (omega (arith, d))) in
           omega (arith, size, past (i + 1) (omega (arith, d)), past i (omega (arith, d)))

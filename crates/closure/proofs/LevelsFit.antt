@@ -8,7 +8,7 @@ use mathlib.Core.List.{List, [], _∷_}
 use lib.ListN.{length, getD, take}
 use lib.Seq.{take-all}
 use Rattle.table.specs.declared.record.Node.{Node}
-use Rattle.table.specs.Table.{Table, nodeAt}
+use Rattle.table.specs.Table.{Table, zeroNode, nodeAt}
 use Rattle.table.specs.Facts.{Wellformed}
 use Rattle.ctl.specs.Rule.{Quantifier, Operator, constant, atom, negation, conjunction, disjunction, next, release, operatorOf}
 use Rattle.circuit.specs.Variables.{costOf, costs, variableFormula}
@@ -58,7 +58,7 @@ levels-fit T wf = omega (arith, sizes-costs (length (T .states)) (length (T .ste
 -- the words of the next node begin where those of this one end
 pub base-next : (T : Table) (i : ℕ) → i < length (T .nodes)
     → levelBase T (i + 1) ≡ levelBase T i + levelSize (length (T .states)) (operatorOf (nodeAt T i))
-base-next T i h = rw (add-one i) (sizes-next (length (T .states)) (T .nodes) i (record { kind = 0; a = 0; b = 0 }) h)
+base-next T i h = rw (add-one i) (sizes-next (length (T .states)) (T .nodes) i zeroNode h)
 
 -- those of a node end before those of a later one
 pub level-apart : (T : Table) (i k : ℕ) → i < k → k < length (T .nodes)

@@ -1,4 +1,5 @@
 pub mod RowLaws
+pub mod Ends
 pub mod Forced
 pub mod Marks
 pub mod Given
@@ -20,10 +21,11 @@ pub mod ClashSound
 pub mod JoinSound
 pub mod NodeSound
 pub mod KeptSound
+pub mod InitialSet
 pub mod StartSound
 pub mod LevelsFit
 pub mod LevelBases
-pub mod RowMore
+pub mod OneMember
 pub mod AndClosed
 pub mod Apart
 pub mod Says

@@ -12,10 +12,7 @@ use Rattle.rows.specs.Row.{known, turned, Within}
 use Rattle.rows.specs.Rules.{newOf, isNone}
 use Rattle.rows.specs.Words.{SmallRow}
 use Rattle.closure.specs.Inside.{RowIn}
-use Rattle.closure.proofs.RowLaws.{or-true, empty-none, without-true, without-small}
-
-pub new-small : (r q : Row) → SmallRow r → SmallRow (newOf r q)
-new-small r q h = (without-small (r .yes) (q .yes) (h .0), without-small (r .no) (q .no) (h .1))
+use Rattle.closure.proofs.RowLaws.{or-true, empty-none, without-true}
 
 pub new-within : (r q : Row) → SmallRow q → Within (newOf r q) r
 new-within r q h s true m = without-true (r .yes) (q .yes) s (h .0) .0 m .1

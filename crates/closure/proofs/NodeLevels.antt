@@ -1,9 +1,9 @@
 -- The levels of a node of an accepted table that is a fixed point, by its kind, lie in the words.
-use Prim.Native.Nat.{ℕ, suc, _+_, _*_, _-_, _≤_, _<_}
+use Prim.Native.Nat.{ℕ, _+_, _*_, _-_, _≤_, _<_}
 use native.Mathlib.Decide.{ℕ-discrete}
 use native.Mathlib.Omega.{arith}
-use mathlib.Core.Path.{_≡_, refl, sym, ap, _∙_}
-use mathlib.Core.Bool.{true, false, false≢true}
+use mathlib.Core.Path.{_≡_, sym, ap, _∙_}
+use mathlib.Core.Bool.{true, false≢true}
 use lib.ListN.{length, List·getD-eq-default}
 use Rattle.table.specs.declared.shape.Shape.{Shape}
 use Rattle.table.specs.declared.shape.Shape.the-variants.{Unknown}

@@ -1,7 +1,7 @@
 -- The k-th of n numbers, going up or going down, by the ways that the code takes to it.
 use Prim.Native.Nat.{ℕ, _-_, _<_}
 use native.Mathlib.Omega.{arith}
-use mathlib.Core.Path.{_≡_}
+use mathlib.Core.Path.{_≡_, refl}
 use mathlib.Core.Bool.{Bool, true, false}
 use Rattle.closure.specs.Sweep.{ordered}
 
@@ -16,3 +16,8 @@ module _ (down : Bool) (n k m : ℕ) where
 pub ordered-below : (down : Bool) (n k : ℕ) → k < n → ordered down n k < n
 ordered-below true n k h = omega arith
 ordered-below false n k h = h
+
+-- and its turn is the k-th from the other end, too
+pub ordered-twice : (down : Bool) (n k : ℕ) → k < n → ordered down n (ordered down n k) ≡ k
+ordered-twice true n k h = omega arith
+ordered-twice false n k h = refl

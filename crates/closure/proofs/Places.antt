@@ -1,6 +1,5 @@
 -- The place of a variable in a list: it is where the variable stands, and step j has place j in the variables of a table.
 use Prim.Native.Nat.{ℕ, suc, _+_, _≤_, _<_, zero-le, suc-le-suc}
-use native.Mathlib.Decide.{decLt}
 use native.Mathlib.Omega.{arith}
 use mathlib.Core.Path.{_≡_, refl, sym, ap, ap₂, subst, _∙_}
 use mathlib.Core.Bool.{Bool, true, false, cond, true≢false, false≢true}
@@ -11,6 +10,7 @@ use lib.Dec.{eqb}
 use lib.ListN.{length, getD, length-append, length-map}
 use Rattle.table.specs.Table.{Table}
 use Rattle.table.specs.Facts.{Wellformed}
+use Rattle.table.proofs.Numbers.{neither-less}
 use Rattle.ctl.proofs.Tabulate.{length-tabulate}
 use Rattle.circuit.specs.Variables.{Var, step, kept, node, edge, ahead, either, level, variables, variableCount}
 use Rattle.circuit.specs.Gates.{gates}
@@ -101,18 +101,15 @@ place-injective {v} {w} {ws} i j e = sym (place-at i v) ∙ ap (λ (p : ℕ). ge
 
 -- where no variable stands twice, the place of the one at i is i
 pub place-of : (d : Var) (ws : List Var) → NoRepeat ws → (i : ℕ) → i < length ws → place (getD ws i d) ws ≡ i
-place-of d ws single i h = go (decLt p i) (decLt i p)
+place-of d ws single i h = neither-less p i
+    (λ l. no-repeat-at ws d single p i l h (place-at m d))
+    (λ l. no-repeat-at ws d single i p l (place-inside m) (sym (place-at m d)))
   where
     m : List·Memᴰ (getD ws i d) ws
     m = member-at ws d i h
 
     p : ℕ
     p = place (getD ws i d) ws
-
-    go : Dec (p < i) → Dec (i < p) → p ≡ i
-    go (yes l) q = absurd (no-repeat-at ws d single p i l h (place-at m d))
-    go (no l) (yes q) = absurd (no-repeat-at ws d single i p q (place-inside m) (sym (place-at m d)))
-    go (no l) (no q) = omega arith
 
 -- ---- in the variables of a table
 

@@ -4,7 +4,6 @@ use mathlib.Core.Path.{_≡_, refl, sym, ap, subst, _∙_}
 use mathlib.Core.Bool.{Bool, true, false, not}
 use mathlib.Core.List.{List, map, map-map, List·Memᴰ}
 use lib.ListN.{length}
-use Rattle.sets.specs.Member.{member}
 use Rattle.table.specs.Table.{Table, stepAt, nodeAt}
 use Rattle.table.specs.Facts.{Wellformed}
 use Rattle.table.specs.Rows.{targetSet}
@@ -20,8 +19,9 @@ use Rattle.rows.specs.Words.{SmallRow}
 use Rattle.closure.specs.Memory.{Knowledge, Small}
 use Rattle.closure.specs.Rest.{aheadOf, RestBack, Rest}
 use Rattle.closure.specs.Inside.{literal}
-use Rattle.closure.proofs.RowLaws.{set-true, some-nonempty, and-true, target-true, target-small, turned-small}
-use Rattle.closure.proofs.RowMore.{turned-twice, clear-turned, within-turned}
+use Rattle.closure.proofs.RowLaws.{set-true, some-nonempty, and-true, turned-small}
+use Rattle.closure.proofs.Ends.{target-true, target-small, out-target}
+use Rattle.closure.proofs.TurnedRows.{turned-twice, clear-turned, within-turned}
 use Rattle.closure.proofs.AndClosed.{AndRules, GateRules, many-rules}
 use Rattle.closure.proofs.Says.{edgeRow, AndRow, edgesOver, edgesAt, rowOf, placeOf, Says, Is, to-row, of-row, to-opposite, of-opposite, two-rows}
 use Rattle.closure.proofs.RestSteps.{AheadRest, edge-and, edge-clear, all-met, met-each, one-missed, last-missed}
@@ -69,10 +69,6 @@ module _ (T : Table) (wf : Wellformed T) (K : Knowledge) where
     unfolding rowOf
     edge-row j e = ap (edgesAt T K (operatorOf (nodeAt T i)) i m) e ∙ is-edges
 
-    -- an end of a step out of s
-    target : (j : ℕ) → List·Memᴰ j (stepsOut T s) → member (targetSet (T .steps) s) (stepAt T j .to) ≡ true
-    target j o = let p = in-out T s j .0 o in target-true T wf s (stepAt T j .to) .1 (j, p .0, p .1, refl)
-
     -- ---- the gate of a step
 
     edge-rules : (p : Quantifier) (g y : Row) (j : ℕ) → stepAt T j .from ≡ s → (w : Var) → ¬ (step j ≡ w) → rowOf T K (edge i m j) ≡ turned (isEvery p) g
@@ -97,8 +93,8 @@ module _ (T : Table) (wf : Wellformed T) (K : Knowledge) where
     edges-good w apart rows places = each-map _ _ (stepsOut T s) (λ j o.
         let p = in-out T s j .0 o in
         let t = stepAt T j .to in (
-          edge-rules q gates end j (p .1) (w t) (apart j t) (edge-row j (p .1)) (rows t (wf .to-state j (p .0))) (places t) (edge-and r t (target j o)),
-          subst (ClearAt t) (sym (edge-row j (p .1))) (clear-turned (isEvery q) gates t (edge-clear r t (target j o))),
+          edge-rules q gates end j (p .1) (w t) (apart j t) (edge-row j (p .1)) (rows t (wf .to-state j (p .0))) (places t) (edge-and r t (out-target T wf s j o)),
+          subst (ClearAt t) (sym (edge-row j (p .1))) (clear-turned (isEvery q) gates t (edge-clear r t (out-target T wf s j o))),
         ))
 
     -- ---- N over them
@@ -113,9 +109,9 @@ module _ (T : Table) (wf : Wellformed T) (K : Knowledge) where
         (λ each. of-row T K iv (all-met r (λ t o. let j = target-true T wf s t .0 o in
         let k = in-out T s (j .0) .1 (j .1, j .2) in
         subst (λ (t : ℕ). known gates true t ≡ true) (j .3) (to-row T K (ie (j .0) k) (each (j .0) k)))))
-        (λ n j o. of-row T K (ie j o) (met-each r (to-row T K iv n) (stepAt T j .to) (target j o)))
+        (λ n j o. of-row T K (ie j o) (met-each r (to-row T K iv n) (stepAt T j .to) (out-target T wf s j o)))
         (λ j o e. of-opposite T K iv (one-missed r (stepAt T j .to) (to-opposite T K (ie j o) e)))
-        (λ n j o others. of-opposite T K (ie j o) (last-missed r (to-opposite T K iv n) (stepAt T j .to) (target j o) (λ u p d.
+        (λ n j o others. of-opposite T K (ie j o) (last-missed r (to-opposite T K iv n) (stepAt T j .to) (out-target T wf s j o) (λ u p d.
         let k = target-true T wf s u .0 p in
         let l = in-out T s (k .0) .1 (k .1, k .2) in
         subst (λ (t : ℕ). known gates true t ≡ true) (k .3) (to-row T K (ie (k .0) l)

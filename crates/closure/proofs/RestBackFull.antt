@@ -12,7 +12,7 @@ use Rattle.sets.specs.Member.{member}
 use Rattle.table.specs.Table.{Table}
 use Rattle.table.specs.Facts.{Wellformed}
 use Rattle.table.specs.Rows.{targetSet}
-use Rattle.table.proofs.Bools.{and-parts, parts-and}
+use Rattle.table.proofs.Bools.{and-parts, parts-and, not-so}
 use Rattle.ctl.specs.Rule.{Quantifier}
 use Rattle.rows.specs.declared.row.Row.{Row}
 use Rattle.rows.specs.Row.{known, turned, only, Within, ClearAt}
@@ -22,8 +22,9 @@ use Rattle.rows.specs.Words.{SmallRow}
 use Rattle.closure.specs.Memory.{Knowledge, Small}
 use Rattle.closure.specs.Rest.{aheadOf, RestBack}
 use Rattle.closure.proofs.Forced.{one-of-both}
-use Rattle.closure.proofs.RowLaws.{and-true, cond-true, set-true, without-true, without-small, empty-none, nonempty-some, only-true, set-small, member-below, target-true, target-small, turned-small, unmet-true}
-use Rattle.closure.proofs.RowMore.{not-so, clear-turned}
+use Rattle.closure.proofs.RowLaws.{and-true, cond-true, set-true, without-true, without-small, empty-none, nonempty-some, only-true, set-small, member-below, turned-small, unmet-true}
+use Rattle.closure.proofs.Ends.{target-true, target-small}
+use Rattle.closure.proofs.TurnedRows.{clear-turned}
 
 -- the rows keep only steps of the table
 abbrev pub OfTable : Table → Knowledge → Type 0

@@ -1,11 +1,11 @@
 -- The demands of a table, at rest.
-use Prim.Native.Nat.{ℕ, _^_, _<_}
+use Prim.Native.Nat.{ℕ, _<_}
 use native.Mathlib.Omega.{arith}
 use mathlib.Core.Path.{_≡_, refl, sym, ap, _∙_}
 use mathlib.Core.Bool.{true, false, cond, true≢false, false≢true}
 use mathlib.Core.Logic.{inl, inr}
 use mathlib.Core.List.{[], _∷_, List·Memᴰ·head, List·Memᴰ·tail, Memᴰ·map}
-use borrow.Author.Tests.{eqb-true, eq-eqb}
+use borrow.Author.Tests.{eqb-true}
 use lib.ListN.{length}
 use Rattle.sets.specs.Member.{member}
 use Rattle.table.specs.Table.{Table, stepAt}
@@ -22,8 +22,10 @@ use Rattle.rows.specs.Rules.{openStarts}
 use Rattle.closure.specs.Memory.{Knowledge, Small}
 use Rattle.closure.specs.Rest.{initialSet, Rest}
 use Rattle.closure.proofs.Forced.{Closed}
-use Rattle.closure.proofs.RowLaws.{without-true, without-small, and-true, or-true, cond-true, set-true, set-small, target-true}
-use Rattle.closure.proofs.RowMore.{same-or, only-this}
+use Rattle.closure.proofs.RowLaws.{without-true, without-small, and-true, or-true, cond-true}
+use Rattle.closure.proofs.Ends.{target-true}
+use Rattle.closure.proofs.InitialSet.{initial-true, initial-small}
+use Rattle.closure.proofs.OneMember.{same-or, only-this}
 use Rattle.closure.proofs.Says.{rowOf, placeOf, Says, of-row, to-opposite}
 use Rattle.closure.proofs.Values.{value-is}
 
@@ -48,15 +50,6 @@ module _ (T : Table) (wf : Wellformed T) (K : Knowledge) (rest : Rest T K) where
 
   -- ---- the initial states
 
-  initial-true : (s : ℕ) → Initial T s → member (initialSet T) s ≡ true
-  initial-true s i = set-true _ _ s .1 (i .0, eq-eqb _ 1 (i .1))
-
-  true-initial : (s : ℕ) → member (initialSet T) s ≡ true → Initial T s
-  true-initial s m = let p = set-true (length (T .states)) _ s .0 m in (p .0, eqb-true _ 1 (p .1))
-
-  initial-small : initialSet T < 2 ^ 32
-  initial-small = set-small _ (omega (arith, wf .few-states)) _
-
   kept-same : (s t : ℕ) → kept s ≡ kept t → s ≡ t
   kept-same s t e = cc
 
@@ -64,11 +57,11 @@ module _ (T : Table) (wf : Wellformed T) (K : Knowledge) (rest : Rest T K) where
   start-closed : Small K → Closed (Says T K) (startDemand T)
   unfolding rowOf placeOf
   start-closed small = each-map _ (λ s. pos (kept s)) (initials T) (λ s m alone.
-      let this = only-this (openStarts (initialSet T) (K .kept)) s (without-small _ _ initial-small)
+      let this = only-this (openStarts (initialSet T) (K .kept)) s (without-small _ _ (initial-small T wf))
       (λ z. rest .start .some-open (eqb-true _ 0 z))
       (λ u o.
       let p = without-true (initialSet T) (K .kept .no) u (small .kept .1) .0 o in
-      same-or u s (λ q. q) (λ d. absurd (true≢false (sym (alone (pos (kept u)) (Memᴰ·map (λ s. pos (kept s)) (in-initials T u .1 (true-initial u (p .1))))
+      same-or u s (λ q. q) (λ d. absurd (true≢false (sym (alone (pos (kept u)) (Memᴰ·map (λ s. pos (kept s)) (in-initials T u .1 (initial-true T u .0 (p .1))))
       (λ e. d (kept-same u s (ap (λ l. l .var) e)))) ∙ p .2)))) in
       rest .start .kept s true (cond-true _ _ s .1 (this .1, this .0)))
 
@@ -78,8 +71,8 @@ module _ (T : Table) (wf : Wellformed T) (K : Knowledge) (rest : Rest T K) where
   root-closed s i =
       let root = value-is T K rest (rootIndex T) (omega (arith, wf .some-node)) true s in
       two-closed (Says T K) (kept s) (value T (rootIndex T) s)
-      (λ e. rest .start .kept s false (and-true _ _ s .1 (to-opposite T K root e, initial-true s i)))
-      (λ e. of-row T K root (rest .start .root s true (and-true _ _ s .1 (e, initial-true s i))))
+      (λ e. rest .start .kept s false (and-true _ _ s .1 (to-opposite T K root e, initial-true T s .1 i)))
+      (λ e. of-row T K root (rest .start .root s true (and-true _ _ s .1 (e, initial-true T s .1 i))))
 
   -- the demands
   pub demands-closed : Small K → Each (Closed (Says T K)) (demands T)

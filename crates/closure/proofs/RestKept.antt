@@ -12,7 +12,7 @@ use Rattle.sets.specs.Member.{member}
 use Rattle.table.specs.Table.{Table, stepAt}
 use Rattle.table.specs.Facts.{Wellformed}
 use Rattle.table.specs.Rows.{targetSet}
-use Rattle.table.proofs.Bools.{parts-and}
+use Rattle.table.proofs.Bools.{parts-and, not-so}
 use Rattle.ctl.specs.Rule.{some}
 use Rattle.circuit.specs.Logic.{pos, neg, any}
 use Rattle.circuit.specs.Variables.{step, kept, stepsOut}
@@ -22,8 +22,9 @@ use Rattle.rows.specs.Row.{known, turned}
 use Rattle.rows.specs.Rules.{unstruck}
 use Rattle.closure.specs.Memory.{Knowledge, Small}
 use Rattle.closure.specs.Rest.{Rest}
-use Rattle.closure.proofs.RowLaws.{without-true, without-small, none-empty, some-nonempty, or-true, cond-true, set-true, target-true, target-small}
-use Rattle.closure.proofs.RowMore.{not-so, same-or, only-this}
+use Rattle.closure.proofs.RowLaws.{without-true, without-small, none-empty, some-nonempty, or-true, cond-true, set-true}
+use Rattle.closure.proofs.Ends.{target-true, target-small, out-target}
+use Rattle.closure.proofs.OneMember.{same-or, only-this}
 use Rattle.closure.proofs.AndClosed.{GateRules, many-rules}
 use Rattle.closure.proofs.Says.{rowOf, placeOf, Says, Is, to-row, of-row, to-opposite, of-opposite}
 use Rattle.closure.proofs.RestAhead.{Good, ahead-shape}
@@ -45,9 +46,6 @@ module _ (T : Table) (wf : Wellformed T) (K : Knowledge) (small : Small K) (rest
   -- what each step out of s has, each end has
   to-ends : (P : ℕ → Type 0) → ((j : ℕ) → List·Memᴰ j (stepsOut T s) → P (stepAt T j .to)) → (t : ℕ) → member (ends T s) t ≡ true → P t
   to-ends P each t m = let j = target-true T wf s t .0 m in subst P (j .3) (each (j .0) (in-out T s (j .0) .1 (j .1, j .2)))
-
-  to-end : (j : ℕ) → List·Memᴰ j (stepsOut T s) → member (ends T s) (stepAt T j .to) ≡ true
-  to-end j o = let p = in-out T s j .0 o in target-true T wf s (stepAt T j .to) .1 (j, p .0, p .1, refl)
 
   -- ---- what the rules say
 
@@ -90,7 +88,7 @@ module _ (T : Table) (wf : Wellformed T) (K : Knowledge) (small : Small K) (rest
   kept-rules = ahead-shape (Says T K) some (kept s) step (stepsOut T s) (many-rules (Says T K) (neg (kept s)) (λ j. neg (step j))
       (λ i j e. step-same i j (ap (λ l. l .var) e)) (stepsOut T s)
       (λ each. of-row T K kept-is (all-struck (to-ends _ (λ j o. to-row T K (step-is j o) (each j o)))))
-      (λ e j o. of-row T K (step-is j o) (struck-all (to-row T K kept-is e) _ (to-end j o)))
+      (λ e j o. of-row T K (step-is j o) (struck-all (to-row T K kept-is e) _ (out-target T wf s j o)))
       (λ j o e. of-opposite T K kept-is (kept-one _ (to-opposite T K (step-is j o) e)))
       (λ e j o others. of-opposite T K (step-is j o) (last-kept (to-opposite T K kept-is e) _
       (to-ends (λ u. ¬ (u ≡ stepAt T j .to) → known (K .steps s) false u ≡ true)

@@ -10,6 +10,7 @@ use lib.ListN.{length}
 use Rattle.sets.specs.Member.{setOf}
 use Rattle.table.specs.Table.{Table}
 use Rattle.table.specs.Facts.{Wellformed}
+use Rattle.table.proofs.Bools.{not-so}
 use Rattle.ctl.specs.Rule.{Quantifier, every, some}
 use Rattle.circuit.specs.Logic.{Literal, pos, neg, Gate, all}
 use Rattle.circuit.specs.Variables.{Var, node, value}
@@ -22,7 +23,7 @@ use Rattle.closure.specs.Memory.{Knowledge}
 use Rattle.closure.specs.Rest.{RestBoth, RestSame, Rest}
 use Rattle.closure.specs.Inside.{literal}
 use Rattle.closure.proofs.RowLaws.{without-true, set-true, set-small}
-use Rattle.closure.proofs.RowMore.{not-so, within-duals}
+use Rattle.closure.proofs.TurnedRows.{within-duals}
 use Rattle.closure.proofs.AndClosed.{AndRules, GateRules, none-rules, twice-rules}
 use Rattle.closure.proofs.Says.{rowOf, placeOf, Says, Is, one-row, two-rows}
 use Rattle.closure.proofs.RestJoin.{both-and}

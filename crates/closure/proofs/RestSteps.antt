@@ -6,14 +6,14 @@ use mathlib.Core.Logic.{_⊎_, inl, inr, ⊎-elim}
 use lib.Bits.{bitOr}
 use lib.Dec.{eqb}
 use Rattle.sets.specs.Member.{member}
-use Rattle.table.proofs.Bools.{parts-and}
+use Rattle.table.proofs.Bools.{parts-and, not-so}
 use Rattle.rows.specs.declared.row.Row.{Row}
 use Rattle.rows.specs.Row.{known, turned, only, Within, ClearAt}
 use Rattle.rows.specs.Rules.{unmet, lastLeft, backSteps, backEnd}
 use Rattle.rows.specs.Words.{SmallRow}
 use Rattle.closure.proofs.Forced.{one-of-both}
 use Rattle.closure.proofs.RowLaws.{without-small, none-empty, and-true, or-true, cond-true, unmet-true}
-use Rattle.closure.proofs.RowMore.{not-so, same-or, only-this}
+use Rattle.closure.proofs.OneMember.{same-or, only-this}
 use Rattle.closure.proofs.Says.{edgeRow, AndRow}
 
 -- At state s, with these steps out of it, known so, these ends and this N, the rules of A add nothing and nothing is known both ways.

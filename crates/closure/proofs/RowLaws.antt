@@ -1,27 +1,19 @@
 -- Laws of rows: members of what the rules make of sets, as propositions.
-use Prim.Native.Nat.{ℕ, _-_, _^_, _≤_, _<_}
+use Prim.Native.Nat.{ℕ, _-_, _^_, _<_}
 use native.Mathlib.Omega.{arith}
 use mathlib.Core.Path.{_≡_, refl, sym, ap, ap₂, _∙_}
 use mathlib.Core.Bool.{Bool, true, false, not, cond, _&&_, _||_, true≢false, false≢true}
 use mathlib.Core.Logic.{_↔_, _⊎_, ⊎-elim}
-use mathlib.Core.List.{List}
 use native.Mathlib.Decide.{decLt}
 use native.Mathlib.Nat.{lt-of-lt-of-le, lt-of-le-of-lt}
 use borrow.Author.Tests.{eqb-true, eqb-false, eq-eqb, ne-eqb, ltb-true, lt-ltb, not-true, not-false}
 use lib.Bits.{bitAnd, bitOr, and-lt, or-lt}
 use lib.Dec.{eqb, ltb}
-use lib.ListN.{length}
 use lib.Pow.{pow-mono, ones-sub-lt}
 use Rattle.sets.specs.Member.{member, setOf, lowestOf}
 use Rattle.sets.proofs.Laws.{member-and, member-or, member-zero, member-past, member-complement}
 use Rattle.sets.proofs.SetOf.{member-setOf, member-setOf-below, setOf-lt, empty, some-member, lowestOf-has, lowestOf-least}
-use Rattle.table.specs.declared.record.Step.{Step}
-use Rattle.table.specs.Accept.{sameStep}
-use Rattle.table.specs.Table.{Table, stepAt}
-use Rattle.table.specs.Facts.{Wellformed}
-use Rattle.table.proofs.All.{any-at, at-any}
 use Rattle.table.proofs.Bools.{and-parts, parts-and, or-parts, or-left, or-right, or-neither}
-use Rattle.table.specs.Rows.{targetSet}
 use Rattle.rows.specs.declared.row.Row.{Row}
 use Rattle.rows.specs.Row.{known, turned, without, only, Clear, clashes, union}
 use Rattle.rows.specs.Words.{SmallRow}
@@ -131,58 +123,7 @@ cond-small false x h = omega arith
 pub set-small : (n : ℕ) → n < 33 → (f : ℕ → Bool) → setOf n f < 2 ^ 32
 set-small n h f = lt-of-lt-of-le (setOf-lt n f) (pow-mono {i = n} {j = 32} (omega arith))
 
--- ---- ends of steps
-
-pub target-true : (T : Table) → Wellformed T → (s t : ℕ)
-    → (member (targetSet (T .steps) s) t ≡ true) ↔ ((j : ℕ) × (j < length (T .steps)) × (stepAt T j .from ≡ s) × (stepAt T j .to ≡ t))
-unfolding targetSet
-target-true T wf s t = (there, back)
-  where
-    is-step : Step → Bool
-    is-step = sameStep (record { from = s; to = t })
-
-    there : member (targetSet (T .steps) s) t ≡ true → (j : ℕ) × (j < length (T .steps)) × (stepAt T j .from ≡ s) × (stepAt T j .to ≡ t)
-    there e =
-        let f = any-at is-step (T .steps) (record { from = 0; to = 0 }) (set-true 32 _ t .0 e .1) in
-        let p = and-parts (eqb s (stepAt T (f .0) .from)) (eqb t (stepAt T (f .0) .to)) (f .2) in
-        (f .0, f .1, sym (eqb-true s (stepAt T (f .0) .from) (p .0)), sym (eqb-true t (stepAt T (f .0) .to) (p .1)))
-
-    back : (j : ℕ) × (j < length (T .steps)) × (stepAt T j .from ≡ s) × (stepAt T j .to ≡ t) → member (targetSet (T .steps) s) t ≡ true
-    back (j, l, p, q) =
-        let below : stepAt T j .to < length (T .states) = wf .to-state j l in
-        let few : length (T .states) ≤ 32 = wf .few-states in
-        set-true 32 _ t .1 (
-          omega arith,
-          at-any is-step (T .steps) (record { from = 0; to = 0 }) j l
-              (parts-and (eqb s (stepAt T j .from)) (eqb t (stepAt T j .to)) (eq-eqb s (stepAt T j .from) (sym p)) (eq-eqb t (stepAt T j .to) (sym q))),
-        )
-
-pub target-small : (xs : List Step) (s : ℕ) → targetSet xs s < 2 ^ 32
-unfolding targetSet
-target-small xs s = setOf-lt 32 _
-
--- two steps with the same ends are the same step
-pub same-ends : (T : Table) → Wellformed T → (i j : ℕ) → i < length (T .steps) → j < length (T .steps)
-    → stepAt T i .from ≡ stepAt T j .from → stepAt T i .to ≡ stepAt T j .to → i ≡ j
-same-ends T wf i j hi hj f t = go (decLt i j) (decLt j i)
-  where
-    -- of two steps, the earlier and the later differ
-    differ : (i j : ℕ) → i < j → j < length (T .steps) → stepAt T i .from ≡ stepAt T j .from → stepAt T i .to ≡ stepAt T j .to → ⊥
-    differ i j l h f t = true≢false (sym (parts-and (eqb (stepAt T i .from) (stepAt T j .from)) (eqb (stepAt T i .to) (stepAt T j .to))
-        (eq-eqb (stepAt T i .from) (stepAt T j .from) f) (eq-eqb (stepAt T i .to) (stepAt T j .to) t)) ∙ wf .no-repeat i j l h)
-
-    go : Dec (i < j) → Dec (j < i) → i ≡ j
-    go (yes l) d = absurd (differ i j l hj f t)
-    go (no k) (yes l) = absurd (differ j i l hi (sym f) (sym t))
-    go (no k) (no l) = omega (arith, k, l)
-
 -- ---- rows
-
--- the dual of a row knows the opposite
-pub known-turned : (b : Bool) (r : Row) (sign : Bool) (s : ℕ) → known (turned b r) sign s ≡ known r (cond b sign (not sign)) s
-known-turned true r sign s = refl
-known-turned false r true s = refl
-known-turned false r false s = refl
 
 pub turned-small : (b : Bool) (r : Row) → SmallRow r → SmallRow (turned b r)
 turned-small true r h = h

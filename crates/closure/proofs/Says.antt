@@ -16,7 +16,7 @@ use Rattle.rows.specs.Rules.{row, eitherRow, joinRelease}
 use Rattle.closure.specs.Dual.{isEvery}
 use Rattle.closure.specs.Memory.{Knowledge}
 use Rattle.closure.specs.Rest.{aheadOf}
-use Rattle.closure.proofs.RowMore.{turned-known, turned-opposite}
+use Rattle.closure.proofs.TurnedRows.{turned-known, turned-opposite}
 use Rattle.closure.proofs.AndClosed.{AndRules, one-rules, two-rules}
 
 -- the place of a variable in its row: the end of a step, or a state
@@ -38,6 +38,16 @@ edgeRow target out end t = row (bitOr (bitOr (out .no) (end .yes)) (cond t targe
 
 abbrev pub nothing : Row
 nothing = row 0 0
+
+-- of a node that has levels, and of no other
+abbrev pub ofLevels : Operator → (Quantifier → ℕ → ℕ → Row) → Row
+ofLevels (constant b) f = nothing
+ofLevels (atom p) f = nothing
+ofLevels (negation a) f = nothing
+ofLevels (conjunction a b) f = nothing
+ofLevels (disjunction a b) f = nothing
+ofLevels (next q a) f = nothing
+ofLevels (release q a b) f = f q a b
 
 -- at state s the row g is the AND of x and y, as far as they are known
 pub record AndRow (g x y : Row) (s : ℕ) : Type 0 where
@@ -73,25 +83,12 @@ module _ (T : Table) (K : Knowledge) where
   edgesAt (next q a) i m s = edgesOver q (K .nodes i) (K .nodes a) s
   edgesAt (release q a b) i m s = edgesOver q (aheadLevel q i a b m) (K .levels i (pred m)) s
 
-  -- its N
+  -- its N, and its G
   unfoldable pub aheadAt : Operator → ℕ → ℕ → Row
-  aheadAt (constant b) i m = nothing
-  aheadAt (atom p) i m = nothing
-  aheadAt (negation a) i m = nothing
-  aheadAt (conjunction a b) i m = nothing
-  aheadAt (disjunction a b) i m = nothing
-  aheadAt (next q a) i m = nothing
-  aheadAt (release q a b) i m = aheadLevel q i a b m
+  aheadAt o i m = ofLevels o (λ q a b. aheadLevel q i a b m)
 
-  -- its G
   unfoldable pub eitherAt : Operator → ℕ → ℕ → Row
-  eitherAt (constant b) i m = nothing
-  eitherAt (atom p) i m = nothing
-  eitherAt (negation a) i m = nothing
-  eitherAt (conjunction a b) i m = nothing
-  eitherAt (disjunction a b) i m = nothing
-  eitherAt (next q a) i m = nothing
-  eitherAt (release q a b) i m = eitherLevel q i a b m
+  eitherAt o i m = ofLevels o (λ q a b. eitherLevel q i a b m)
 
   -- ---- the row of a variable
 

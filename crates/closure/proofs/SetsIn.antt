@@ -1,6 +1,6 @@
 -- Sets all of whose members have P, and rows made of two such sets: of variables by state, and of steps by their ends.
 use Prim.Native.Nat.{ℕ, _^_, _<_}
-use mathlib.Core.Path.{_≡_, refl, sym, subst, _∙_}
+use mathlib.Core.Path.{_≡_, sym, subst, _∙_}
 use mathlib.Core.Bool.{Bool, true, false, not, cond}
 use mathlib.Core.Logic.{⊎-elim}
 use lib.Bits.{bitAnd, bitOr}
@@ -8,12 +8,14 @@ use lib.ListN.{length}
 use Rattle.sets.specs.Member.{member, setOf}
 use Rattle.table.specs.Table.{Table, stepAt}
 use Rattle.table.specs.Facts.{Wellformed}
+use Rattle.table.proofs.Bools.{not-so}
 use Rattle.circuit.specs.Logic.{Literal}
 use Rattle.circuit.specs.Variables.{Var, step}
 use Rattle.rows.specs.declared.row.Row.{Row}
 use Rattle.rows.specs.Row.{known, turned, only}
 use Rattle.closure.specs.Inside.{literal, RowIn, StepsIn}
-use Rattle.closure.proofs.RowLaws.{and-true, or-true, cond-true, set-true, only-true, same-ends}
+use Rattle.closure.proofs.RowLaws.{and-true, or-true, cond-true, set-true, only-true}
+use Rattle.closure.proofs.Ends.{same-ends}
 
 -- each member of the set has P
 abbrev pub SetIn : (ℕ → Type 0) → ℕ → Type 0
@@ -79,8 +81,5 @@ module _ (T : Table) (S : Literal Var → Type 0) where
 pub other-end : (T : Table) → Wellformed T → (s left : ℕ) → left < 2 ^ 32 → only left ≡ true
     → (j : ℕ) → j < length (T .steps) → stepAt T j .from ≡ s → member left (stepAt T j .to) ≡ true
     → (k : ℕ) → k < length (T .steps) → stepAt T k .from ≡ s → ¬ (k ≡ j) → member left (stepAt T k .to) ≡ false
-other-end T wf s left small one j hj fj mj k hk fk other = go (member left (stepAt T k .to)) refl
-  where
-    go : (b : Bool) → member left (stepAt T k .to) ≡ b → member left (stepAt T k .to) ≡ false
-    go true m = let c = only-true left small .0 one in absurd (other (same-ends T wf k j hk hj (fk ∙ sym fj) (c .2 _ m ∙ sym (c .2 _ mj))))
-    go false m = m
+other-end T wf s left small one j hj fj mj k hk fk other = not-so (member left (stepAt T k .to)) (λ m.
+    let c = only-true left small .0 one in other (same-ends T wf k j hk hj (fk ∙ sym fj) (c .2 _ m ∙ sym (c .2 _ mj))))

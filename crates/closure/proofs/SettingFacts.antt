@@ -1,17 +1,17 @@
 -- What a setting says of the table: few states and nodes, nodes read from its section, and where their levels end.
 use Prim.Native.Nat.{ℕ, _+_, _*_, _-_, _≤_, _<_}
 use native.Mathlib.Omega.{arith}
-use mathlib.Core.Path.{_≡_, refl, sym, ap, _∙_}
+use mathlib.Core.Path.{_≡_, ap}
 use mathlib.Core.List.{List}
 use lib.ListN.{length, getD, drop}
 use Rattle.table.specs.declared.record.Node.{Node}
-use Rattle.table.specs.Table.{tableOf, nodeAt, nodeOf, nodeWidth, nodesPart, countsOf}
+use Rattle.table.specs.Table.{tableOf, nodeAt, nodeOf, nodeWidth, nodesPart}
 use Rattle.table.specs.Facts.{Wellformed}
 use Rattle.table.proofs.Accepted.{accepted}
 use Rattle.table.proofs.ReadNode.{ReadNode, read-node}
 use Rattle.closure.specs.declared.net.Net.{Net}
 use Rattle.closure.specs.Memory.{levelBase, levelTotal}
-use Rattle.closure.specs.Setting.{Setting, netOf}
+use Rattle.closure.specs.Setting.{Setting}
 use Rattle.closure.proofs.NodeLevels.{node-levels}
 
 module _ {table : List ℕ} {net : Net} {targets bases : List ℕ} (g : Setting table net targets bases) where

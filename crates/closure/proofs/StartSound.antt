@@ -1,12 +1,8 @@
 -- The initial states: what the rows of K and of the root add to each other there is forced, and where none of them may be kept the set fails.
-use Prim.Native.Nat.{ℕ, _^_, _<_}
-use native.Mathlib.Omega.{arith}
+use Prim.Native.Nat.{ℕ}
 use mathlib.Core.Path.{_≡_, refl, sym, ap, _∙_}
 use mathlib.Core.Bool.{Bool, true, false, false≢true}
-use mathlib.Core.Logic.{_↔_}
 use mathlib.Core.List.{List·Memᴰ, Memᴰ·map}
-use borrow.Author.Tests.{eqb-true, eq-eqb}
-use lib.ListN.{length}
 use Rattle.sets.specs.Member.{member}
 use Rattle.sets.proofs.Laws.{member-zero}
 use Rattle.table.specs.Table.{Table}
@@ -24,22 +20,13 @@ use Rattle.rows.specs.Words.{SmallRow}
 use Rattle.rows.specs.Rules.{openStarts, startKept, startRoot}
 use Rattle.closure.specs.Rest.{initialSet}
 use Rattle.closure.specs.Inside.{RowIn, Clash}
-use Rattle.closure.proofs.RowLaws.{without-true, member-below, only-true, and-true, set-true, without-small, set-small}
+use Rattle.closure.proofs.RowLaws.{without-true, member-below, only-true, and-true, without-small}
+use Rattle.closure.proofs.InitialSet.{initial-true, initial-small}
 use Rattle.closure.proofs.Forced.{Closed}
 use Rattle.closure.proofs.SetsIn.{set-cond, row-in}
 use Rattle.closure.proofs.KeptSound.{then-in, unless-in}
 
--- the members of the set are the initial states
-initial-true : (T : Table) (s : ℕ) → (member (initialSet T) s ≡ true) ↔ Initial T s
-initial-true T s = (
-  λ m. let r = set-true (length (T .states)) _ s .0 m in (r .0, eqb-true _ 1 (r .1)),
-  λ i. set-true (length (T .states)) _ s .1 (i .0, eq-eqb _ 1 (i .1)),
-)
-
 module _ (T : Table) (wf : Wellformed T) (S : Literal Var → Type 0) (closed : (C : Clause) → List·Memᴰ C (clauses T) → Closed S C) where
-  initial-small : initialSet T < 2 ^ 32
-  initial-small = set-small (length (T .states)) (omega (arith, wf .few-states)) _
-
   -- the only initial state that may yet be kept
   last-start : (s : ℕ) → Initial T s → ((t : ℕ) → Initial T t → ¬ (t ≡ s) → S (neg (kept t))) → S (pos (kept s))
   last-start s i others = closed _ (start-in T) (pos (kept s)) (Memᴰ·map (λ s. pos (kept s)) (in-initials T s .1 i))
@@ -56,7 +43,7 @@ module _ (T : Table) (wf : Wellformed T) (S : Literal Var → Type 0) (closed : 
 
         go : (b : Bool) → member (k .no) s ≡ b → S (neg (kept s))
         go true f = in-k false s f .1
-        go false f = absurd (false≢true (sym none ∙ without-true (initialSet T) (k .no) s (small .1) .1 (member-below _ s initial-small start, start, f)))
+        go false f = absurd (false≢true (sym none ∙ without-true (initialSet T) (k .no) s (small .1) .1 (member-below _ s (initial-small T wf) start, start, f)))
 
     -- the last initial state left is kept, and one where the root is false is not
     pub start-kept-in : (r : Row) → RowIn T S (value T (rootIndex T)) r → RowIn T S kept (startKept (initialSet T) k r)
@@ -74,7 +61,7 @@ module _ (T : Table) (wf : Wellformed T) (S : Literal Var → Type 0) (closed : 
 
         not-left : only left ≡ true → (s : ℕ) → member left s ≡ true → (t : ℕ) → ¬ (t ≡ s) → (b : Bool) → member left t ≡ b → member left t ≡ false
         not-left one s m t other true e =
-            let c = only-true left (without-small _ _ initial-small) .0 one in absurd (other (c .2 t e ∙ sym (c .2 s m)))
+            let c = only-true left (without-small _ _ (initial-small T wf)) .0 one in absurd (other (c .2 t e ∙ sym (c .2 s m)))
         not-left one s m t other false e = e
 
     -- a kept initial state has the root

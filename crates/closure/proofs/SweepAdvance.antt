@@ -2,7 +2,7 @@
 -- fail every rule is at rest.
 use Prim.Native.Nat.{ℕ, _<_}
 use native.Mathlib.Omega.{arith}
-use mathlib.Core.Path.{_≡_, refl, sym, ap, subst, _∙_}
+use mathlib.Core.Path.{_≡_, refl, sym, ap, subst}
 use mathlib.Core.Bool.{Bool, true, false, cond, _||_, false≢true}
 use mathlib.Core.Logic.{⊎-elim}
 use mathlib.Core.List.{List}

@@ -3,9 +3,10 @@ use Prim.Native.Nat.{ℕ, _<_}
 use mathlib.Core.Path.{_≡_, refl, sym, ap, _∙_}
 use mathlib.Core.Bool.{Bool, true, false, true≢false}
 use lib.ListN.{length}
-use Rattle.table.specs.Table.{Table, nodeAt}
-use Rattle.ctl.specs.Rule.{Operator, constant, atom, negation, conjunction, disjunction, next, release, operatorOf}
-use Rattle.circuit.specs.Variables.{Var, step, kept, node, edge, ahead, either, level, valueOf, value}
+use Rattle.table.specs.Table.{Table}
+use Rattle.circuit.specs.Variables.{Var, step, kept, node, edge, ahead, either, level, value}
+use Rattle.circuit.proofs.Distinct.{nodeOf}
+use Rattle.circuit.proofs.Value.{value-cases}
 use Rattle.rows.specs.Row.{turned}
 use Rattle.closure.specs.Memory.{Knowledge}
 use Rattle.closure.specs.Rest.{Rest}
@@ -22,40 +23,12 @@ isValue (ahead i m s) = false
 isValue (either i m s) = false
 isValue (level i m s) = true
 
--- the node of such a variable
-abbrev nodeOf : Var → ℕ
-nodeOf (step j) = 0
-nodeOf (kept s) = 0
-nodeOf (node i s) = i
-nodeOf (edge i m j) = i
-nodeOf (ahead i m s) = i
-nodeOf (either i m s) = i
-nodeOf (level i m s) = i
-
 module _ (T : Table) where
   value-kind : (i s : ℕ) → isValue (value T i s) ≡ true
-  value-kind i s = go (operatorOf (nodeAt T i))
-    where
-      go : (o : Operator) → isValue (valueOf T o i s) ≡ true
-      go (constant b) = refl
-      go (atom p) = refl
-      go (negation a) = refl
-      go (conjunction a b) = refl
-      go (disjunction a b) = refl
-      go (next q a) = refl
-      go (release q a b) = refl
+  value-kind i s = value-cases T (λ v. isValue v ≡ true) i s refl (λ q a b e. refl)
 
   value-node : (i s : ℕ) → nodeOf (value T i s) ≡ i
-  value-node i s = go (operatorOf (nodeAt T i))
-    where
-      go : (o : Operator) → nodeOf (valueOf T o i s) ≡ i
-      go (constant b) = refl
-      go (atom p) = refl
-      go (negation a) = refl
-      go (conjunction a b) = refl
-      go (disjunction a b) = refl
-      go (next q a) = refl
-      go (release q a b) = refl
+  value-node i s = value-cases T (λ v. nodeOf v ≡ i) i s refl (λ q a b e. refl)
 
   -- a variable of another kind is not X
   pub value-other : (i s : ℕ) (v : Var) → isValue v ≡ false → ¬ (value T i s ≡ v)
@@ -68,30 +41,12 @@ module _ (T : Table) where
   -- X at s stands at s
   pub value-place : (i s : ℕ) → placeOf T (value T i s) ≡ s
   unfolding placeOf
-  value-place i s = go (operatorOf (nodeAt T i))
-    where
-      go : (o : Operator) → placeOf T (valueOf T o i s) ≡ s
-      go (constant b) = refl
-      go (atom p) = refl
-      go (negation a) = refl
-      go (conjunction a b) = refl
-      go (disjunction a b) = refl
-      go (next q a) = refl
-      go (release q a b) = refl
+  value-place i s = value-cases T (λ v. placeOf T v ≡ s) i s refl (λ q a b e. refl)
 
   module _ (K : Knowledge) where
     pub value-row : Rest T K → (i : ℕ) → i < length (T .nodes) → (s : ℕ) → rowOf T K (value T i s) ≡ K .nodes i
     unfolding rowOf
-    value-row rest i h s = go (operatorOf (nodeAt T i)) refl
-      where
-        go : (o : Operator) → operatorOf (nodeAt T i) ≡ o → rowOf T K (valueOf T o i s) ≡ K .nodes i
-        go (constant b) e = refl
-        go (atom p) e = refl
-        go (negation a) e = refl
-        go (conjunction a b) e = refl
-        go (disjunction a b) e = refl
-        go (next q a) e = refl
-        go (release q a b) e = rest .last i q a b h e
+    value-row rest i h s = value-cases T (λ v. rowOf T K v ≡ K .nodes i) i s refl (λ q a b e. rest .last i q a b h e)
 
     -- a literal of X has the node's row, or its dual
     pub value-is : Rest T K → (i : ℕ) → i < length (T .nodes) → (sign : Bool) (s : ℕ) → Is T K (literal sign (value T i s)) (turned sign (K .nodes i)) s

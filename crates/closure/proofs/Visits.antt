@@ -27,26 +27,24 @@ alike-parts v level below e =
     let s = and-parts (sameRow (v .level) level) (sameRow (v .below) below) (p .1) in
     (p .0, same-row (v .level) level (s .0), same-row (v .below) below (s .1))
 
-module _ (targets : List ℕ) (n : ℕ) (x : Fixpoint) (m : ℕ) (v : Seen) (M : Memory) where
-  visit-so : (b : Bool) → alike v (levelAt n x (suc m) M) (levelAt n x m M) ≡ b
-      → levelVisit targets n x m v M ≡ cond b (passed v M) (levelLook targets n x m M)
-  unfolding levelVisit
-  visit-so b e = ap (λ (b : Bool). cond b (passed v M) (levelLook targets n x m M)) e
+-- either is done, once it is known which
+told : {A : Type 0} (x y : A) {a b : Bool} → a ≡ b → cond a x y ≡ cond b x y
+told x y = ap (λ (b : Bool). cond b x y)
 
+module _ (targets : List ℕ) (n : ℕ) (x : Fixpoint) (m : ℕ) (v : Seen) (M : Memory) where
   pub visit-alike : alike v (levelAt n x (suc m) M) (levelAt n x m M) ≡ true → levelVisit targets n x m v M ≡ passed v M
-  visit-alike = visit-so true
+  unfolding levelVisit
+  visit-alike = told (passed v M) (levelLook targets n x m M)
 
   pub visit-other : alike v (levelAt n x (suc m) M) (levelAt n x m M) ≡ false → levelVisit targets n x m v M ≡ levelLook targets n x m M
-  visit-other = visit-so false
+  unfolding levelVisit
+  visit-other = told (passed v M) (levelLook targets n x m M)
 
 module _ (table : List ℕ) (net : Net) (targets bases : List ℕ) (down : Bool) (i resting : ℕ) (M : Memory) where
-  visit-where : (b : Bool) → member resting i ≡ b
-      → nodeVisit table net targets bases down i resting M ≡ cond b (passed resting M) (nodeLook table net targets bases down i resting M)
-  unfolding nodeVisit
-  visit-where b e = ap (λ (b : Bool). cond b (passed resting M) (nodeLook table net targets bases down i resting M)) e
-
   pub visit-resting : member resting i ≡ true → nodeVisit table net targets bases down i resting M ≡ passed resting M
-  visit-resting = visit-where true
+  unfolding nodeVisit
+  visit-resting = told (passed resting M) (nodeLook table net targets bases down i resting M)
 
   pub visit-node : member resting i ≡ false → nodeVisit table net targets bases down i resting M ≡ nodeLook table net targets bases down i resting M
-  visit-node = visit-where false
+  unfolding nodeVisit
+  visit-node = told (passed resting M) (nodeLook table net targets bases down i resting M)

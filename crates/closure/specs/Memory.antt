@@ -1,7 +1,7 @@
 -- Where the rows lie. `rows` has a row for the steps out of each state (0 to 31),
 -- for each node (32 to 63) and for K (64); `words` has those of the levels 1 to n - 1 of each fixed-point node, one node after the other.
 -- Level 0 is b's row, and level n the node's own.
-use Prim.Native.Nat.{ℕ, zero, suc, _+_, _*_, _-_, _≤_, _<_, _^_}
+use Prim.Native.Nat.{ℕ, _+_, _*_, _-_, _≤_, _<_, _^_}
 use mathlib.Core.Path.{_≡_}
 use mathlib.Core.Bool.{cond}
 use mathlib.Core.List.{List, [], _∷_}

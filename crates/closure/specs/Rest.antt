@@ -11,7 +11,7 @@ use Rattle.table.specs.Rows.{targetSet}
 use Rattle.ctl.specs.Rule.{Quantifier, every, some, Operator, constant, atom, negation, conjunction, disjunction, next, release, operatorOf, rootIndex}
 use Rattle.rows.specs.declared.row.Row.{Row}
 use Rattle.rows.specs.Row.{known, turned, WithinAt, Within, ClearAt}
-use Rattle.rows.specs.Rules.{row, aheadRow, backSteps, backEnd, andOutput, andInput, eitherRow, joinRelease, newOf, keptRow, keptSteps, openStarts, startKept, startRoot, constantRow}
+use Rattle.rows.specs.Rules.{aheadRow, backSteps, backEnd, andOutput, andInput, eitherRow, joinRelease, newOf, keptRow, keptSteps, openStarts, startKept, startRoot, constantRow}
 use Rattle.closure.specs.Dual.{isEvery}
 use Rattle.closure.specs.Memory.{Knowledge}
 

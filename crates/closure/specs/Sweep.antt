@@ -6,9 +6,9 @@ use mathlib.Core.List.{List}
 use lib.Dec.{eqb}
 use lib.ListN.{getD}
 use Rattle.sets.specs.Member.{member, setOf}
-use Rattle.table.specs.Table.{Table, tableOf, nodeAt, statesPart}
+use Rattle.table.specs.Table.{tableOf, nodeAt, statesPart}
 use Rattle.table.specs.StateSets.{labelledWord}
-use Rattle.ctl.specs.Rule.{Quantifier, every, some, Operator, constant, atom, negation, conjunction, disjunction, next, release, operatorOf}
+use Rattle.ctl.specs.Rule.{every, Operator, constant, atom, negation, conjunction, disjunction, next, release, operatorOf}
 use Rattle.rows.specs.declared.row.Row.{Row}
 use Rattle.rows.specs.declared.row.Report.{Report}
 use Rattle.closure.specs.declared.net.Net.{Net}
@@ -21,7 +21,7 @@ use Rattle.rows.specs.Rules.{row, newOf, isNone, aheadRow, andOutput, andInput,
 use Rattle.closure.specs.Dual.{isEvery}
 use Rattle.rows.specs.Words.{rowAt, joined, reportOf, bothReports, quiet, stepPlace}
 use Rattle.closure.specs.Memory.{Memory, nodePlace, keptPlace}
-use Rattle.rows.specs.Back.{quietReport, backRows, backRow, backReport}
+use Rattle.rows.specs.Back.{backRows, backRow, backReport}
 
 -- ---- one thing after the other
 
@@ -101,6 +101,10 @@ module _ (targets : List ℕ) (n : ℕ) where
 
 -- ---- levels: level 0 is the row of b and level n that of the node; the others lie in the words from `base` on
 
+-- release of a and b, at node i
+abbrev pub fixpointAt : ℕ → Bool → ℕ → ℕ → ℕ → Fixpoint
+fixpointAt i e a b base = record { family = Release; node = i; a = a; b = b; every = e; base = base }
+
 module _ (n : ℕ) (x : Fixpoint) where
   abbrev pub levelAt : ℕ → Memory → Row
   levelAt m M = cond (eqb m 0) (nodeRow M (x .b)) (cond (eqb m n) (nodeRow M (x .node)) (rowAt (M .words) (x .base + 2 * (m - 1))))
@@ -179,7 +183,7 @@ module _ (table targets bases : List ℕ) (n : ℕ) (down : Bool) (i : ℕ) wher
   nodeStep (disjunction a b) M = cond (eqb a b) (sameStep i true a M) (bothStep i false a b M)
   nodeStep (next q a) M = nextStep targets n i (isEvery q) a M
   nodeStep (release q a b) M =
-      levelsFrom targets n (record { family = Release; node = i; a = a; b = b; every = isEvery q; base = getD bases i 0 }) down n M .done
+      levelsFrom targets n (fixpointAt i (isEvery q) a b (getD bases i 0)) down n M .done
 
 -- ---- K and the initial states
 

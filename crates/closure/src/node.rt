@@ -3,7 +3,6 @@ use crate::level::Fixpoint;
 use crate::levels::levels_step;
 use rows::Family;
 use rows::Report;
-use rows::Row;
 use rows::add;
 use rows::ahead;
 use rows::and_input;
@@ -23,7 +22,7 @@ ghost use lib.Dec.{eqb};
 ghost use Prim.Native.Nat.{ℕ, _+_, _*_, _-_, _≤_, _<_};
 ghost use lib.ListN.{length, getD};
 ghost use Rattle.ctl.specs.Rule.{operatorOf};
-ghost use Rattle.closure.specs.Sweep.{memory, stepped, sameStep, bothStep, nextStep, nodeStep};
+ghost use Rattle.closure.specs.Sweep.{memory, stepped, fixpointAt, levelsFrom, sameStep, bothStep, nextStep, nodeStep};
 
 // One input: what is known passes both ways.
 fn same_step(rows: &mut [u32], i: usize, same: bool, a: usize) -> Report
@@ -80,6 +79,35 @@ fn next_step(targets: &[u32], rows: &mut [u32], n: usize, i: usize, every: bool,
     )
 }
 
+// A[a V b]; E[a V b] is its dual.
+fn release_step(
+    targets: &[u32],
+    rows: &mut [u32],
+    words: &mut [u32],
+    n: usize,
+    base: usize,
+    i: usize,
+    every: bool,
+    a: usize,
+    b: usize,
+    down: bool,
+) -> Report
+    requires { ⌜ (i < 32) × ((a < 32) × ((b < 32) × (length (now rows) ≡ 130))) ⌝ }
+    requires { ⌜ (n ≤ 32) × (length (now targets) ≡ 32) ⌝ }
+    requires { ⌜ base + 2 * (n - 1) ≤ length (now words) ⌝ }
+    ensures { λ q. ⌜ stepped (now (rows .exit)) (now (words .exit)) q ≡ levelsFrom (now (targets .entry)) n (fixpointAt i every a b base) down n (memory (now (rows .entry)) (now (words .entry))) .done ⌝ }
+{
+    let x = Fixpoint {
+        family: Family::Release,
+        node: i,
+        a: a,
+        b: b,
+        every: every,
+        base: base,
+    };
+    levels_step(targets, rows, words, n, x, down)
+}
+
 pub fn node_step(
     table: &[u8],
     targets: &[u32],
@@ -110,28 +138,8 @@ pub fn node_step(
         5 => pair_step(rows, i, false, a, b),
         6 => next_step(targets, rows, n, i, true, a),
         7 => next_step(targets, rows, n, i, false, a),
-        8 => {
-            let x = Fixpoint {
-                family: Family::Release,
-                node: i,
-                a: a,
-                b: b,
-                every: true,
-                base: base,
-            };
-            levels_step(targets, rows, words, n, x, down)
-        }
-        9 => {
-            let x = Fixpoint {
-                family: Family::Release,
-                node: i,
-                a: a,
-                b: b,
-                every: false,
-                base: base,
-            };
-            levels_step(targets, rows, words, n, x, down)
-        }
+        8 => release_step(targets, rows, words, n, base, i, true, a, b, down),
+        9 => release_step(targets, rows, words, n, base, i, false, a, b, down),
         _ => add(rows, 64 + 2 * i, constant_row(n, 0)),
     }
 }

@@ -10,8 +10,7 @@ use lib.Dec.{ltb, eqb}
 use lib.ListN.{length, getD, take, length-append}
 use lib.Seq.{take-length, take-take, take-append-seam, getD-append-seam, getD-take}
 use Rattle.table.specs.declared.record.Node.{Node}
-use Rattle.table.specs.Table.{Table, nodeAt}
-pub use Rattle.table.specs.Table.{zeroNode}
+use Rattle.table.specs.Table.{Table, zeroNode, nodeAt}
 use Rattle.table.specs.Accept.{shapeOf, fieldsFit}
 use Rattle.table.specs.Facts.{Wellformed}
 use Rattle.ctl.specs.Rule.{Operator, constant, atom, negation, conjunction, disjunction, next, release, operatorOf, bottomUp}

@@ -96,10 +96,6 @@ module _ (T : Table) (wf : Wellformed T) (list : List ℕ) where
   pub label-set : (i : ℕ) → i < length (T .nodes) → KeptSet T list (label T list i)
   label-set = node-induction T wf _ (λ i h k. rw (label-of T wf list i h) (operator-set T list _ _ k))
 
-  -- it has a mark for each state
-  pub label-length : (i : ℕ) → i < length (T .nodes) → length (label T list i) ≡ length (T .states)
-  label-length i h = label-set i h .size
-
   -- a marked state is kept
   pub marked-kept : (i : ℕ) → i < length (T .nodes) → (s : ℕ) → marked T list i s ≡ true → Kept T list s
   marked-kept i h = label-set i h .inside

@@ -10,6 +10,7 @@ use Rattle.table.specs.declared.refusal.Verdict.the-variants.{Accepted}
 use Rattle.table.specs.Table.{Table, stateAt, stepAt, nodeAt}
 use Rattle.table.specs.Accept.{all, any, sameStep, nodeFits}
 use Rattle.table.specs.Facts.{Wellformed}
+use Rattle.table.proofs.Bools.{not-so}
 use Rattle.ctl.specs.Meaning.{Formula, ax, Fullpath, Released, Holds}
 use Rattle.ctl.specs.Rule.{every, bottomUp, rootIndex}
 use Rattle.ctl.specs.Kept.{Initial, Labelled, IsList, Next, Kept, Repair}
@@ -34,11 +35,7 @@ released-at-first a b π r k none first = r k none
 -- a state that is not kept is marked for no node, whether or not the list is total
 pub dead-end-unmarked : (T : Table) → Wellformed T → (list : List ℕ) (i : ℕ) → i < length (T .nodes) → (s : ℕ) → ¬ Kept T list s
     → marked T list i s ≡ false
-dead-end-unmarked T wf list i h s dead = go (marked T list i s) refl
-  where
-    go : (v : Bool) → marked T list i s ≡ v → marked T list i s ≡ false
-    go true e = absurd (dead (marked-kept T wf list i h s e))
-    go false e = e
+dead-end-unmarked T wf list i h s dead = not-so (marked T list i s) (λ e. dead (marked-kept T wf list i h s e))
 
 -- the path meaning alone is no guard: AX holds at a dead end, for want of next states
 pub ax-holds-at-dead-end : (T : Table) (list : List ℕ) (a : Formula) (s : ℕ) → ¬ Kept T list s → Holds (Next T list) (Labelled T) (ax a) s

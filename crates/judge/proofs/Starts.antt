@@ -7,18 +7,19 @@ use native.Mathlib.Decide.{decLt}
 use native.Mathlib.Omega.{arith}
 use borrow.Author.Tests.{eq-eqb, ne-eqb, eqb-true, not-true}
 use lib.Dec.{eqb}
-use lib.ListN.{length, List·getD-eq-default}
+use lib.ListN.{length}
 use Rattle.sets.specs.Member.{member, setOf}
 use Rattle.sets.proofs.Laws.{member-zero}
 use Rattle.sets.proofs.SetOf.{setOf-lt, setOf-cong, member-setOf-below, empty}
 use Rattle.table.specs.declared.record.State.{State}
 use Rattle.table.specs.Table.{Table}
 use Rattle.table.specs.Facts.{Wellformed}
+use Rattle.table.proofs.Bools.{same-test, not-so}
+use Rattle.table.proofs.Past.{state-past}
 use Rattle.ctl.specs.Rule.{rootIndex}
 use Rattle.ctl.specs.Labels.{isKept, marked}
 use Rattle.ctl.specs.Tests.{isInitialKept, keepsInitial, rootMarked}
 use Rattle.ctl.proofs.Repair.{all-states, any-states}
-use Rattle.label.proofs.Marks.{same-test}
 
 -- a set is empty just when no state has the test
 none-in : (f : ℕ → Bool) → setOf 32 f ≡ 0 → (s : ℕ) → s < 32 → f s ≡ false
@@ -30,7 +31,7 @@ empty-of f e = empty 32 (setOf 32 f) (setOf-lt 32 f) (λ s h. member-setOf-below
 module _ (T : Table) (wf : Wellformed T) (list : List ℕ) where
   -- past the last state nothing is initial
   past : (s : ℕ) → length (T .states) ≤ s → isInitialKept T list s ≡ false
-  past s h = ap (λ (x : ℕ). eqb x 1 && isKept T list s) (ap (λ (y : State). y .initial) (List·getD-eq-default (T .states) (record { initial = 0; label = 0 }) {n = s} h))
+  past s h = ap (λ (x : ℕ). eqb x 1 && isKept T list s) (ap (λ (y : State). y .initial) (state-past T s h))
 
   inside : (s : ℕ) → isInitialKept T list s ≡ true → s < length (T .states)
   inside s e = elim (decLt s (length (T .states))) [ yes h ↦ h | no d ↦ absurd (false≢true (sym (past s (omega (arith, d))) ∙ e)) ]
@@ -47,11 +48,7 @@ module _ (T : Table) (wf : Wellformed T) (list : List ℕ) where
           go false p = absurd (true≢false (sym (eq-eqb w 0 (e ∙ empty-of (isInitialKept T list) none)) ∙ not-true (eqb w 0) h))
             where
               none : (s : ℕ) → s < 32 → isInitialKept T list s ≡ false
-              none s l = case (isInitialKept T list s) refl
-                where
-                  case : (b : Bool) → isInitialKept T list s ≡ b → b ≡ false
-                  case false q = refl
-                  case true q = absurd (false≢true (sym p ∙ any-states T (isInitialKept T list) .1 (s, inside s q, q)))
+              none s l = not-so (isInitialKept T list s) (λ q. false≢true (sym p ∙ any-states T (isInitialKept T list) .1 (s, inside s q, q)))
 
       back : keepsInitial T list ≡ true → not (eqb w 0) ≡ true
       back p =

@@ -1,6 +1,6 @@
 -- Label's words are the path meaning: bit s of entry i is set exactly where s is kept and node i holds, and nothing else is written.
 use Prim.Native.Nat.{ℕ, _≤_, _<_}
-use mathlib.Core.Path.{_≡_, refl, sym, ap, subst, _∙_}
+use mathlib.Core.Path.{_≡_, sym, ap, subst, _∙_}
 use mathlib.Core.Bool.{Bool, true, false}
 use mathlib.Core.Logic.{_↔_}
 use mathlib.Core.List.{List}
@@ -20,6 +20,7 @@ use Rattle.table.specs.Table.{tableOf}
 use Rattle.table.specs.Facts.{Wellformed}
 use Rattle.table.proofs.Accepted.{accepted}
 use Rattle.table.proofs.Buffer.{over-written}
+use Rattle.table.proofs.Bools.{not-so}
 use Rattle.ctl.specs.Kept.{Kept, NodeHolds}
 use Rattle.ctl.specs.Labels.{marked}
 use Rattle.ctl.proofs.Meaning.{labels-are-meaning, marked-kept}
@@ -64,13 +65,9 @@ module _ (table list buffer : List ℕ) (ok : labelVerdict table list (length bu
 
   -- no state past the last is marked
   unmarked : (i : ℕ) → i < length (tableOf table .nodes) → (s : ℕ) → length (tableOf table .states) ≤ s → marked (tableOf table) list i s ≡ false
-  unmarked i h s past = go (marked (tableOf table) list i s) refl
-    where
-      go : (b : Bool) → marked (tableOf table) list i s ≡ b → b ≡ false
-      go false e = refl
-      go true e =
-          let k = marked-kept (tableOf table) wf list i h s e in
-          absurd (omega (arith, next-inside (tableOf table) wf list s (k .0) (k .1) .0))
+  unmarked i h s past = not-so (marked (tableOf table) list i s) (λ e.
+      let k = marked-kept (tableOf table) wf list i h s e in
+      omega (arith, next-inside (tableOf table) wf list s (k .0) (k .1) .0))
 
   -- bit s of entry i is the mark
   bit-at : (i : ℕ) → i < length (tableOf table .nodes) → (s : ℕ) → member (getD (labelBuffer table list buffer) i 0) s ≡ marked (tableOf table) list i s

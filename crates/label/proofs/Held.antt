@@ -11,6 +11,7 @@ use lib.ListN.{length, getD}
 use Rattle.sets.specs.Member.{countOf}
 use Rattle.table.specs.Table.{Table}
 use Rattle.table.specs.Facts.{Wellformed}
+use Rattle.table.proofs.Numbers.{neither-less}
 use Rattle.ctl.specs.Rule.{rootIndex}
 use Rattle.ctl.specs.Labels.{marked}
 use Rattle.ctl.proofs.Targets.{next-inside}
@@ -32,12 +33,9 @@ held-ascending T list =
 -- so none of them stands twice
 pub held-once : (T : Table) (list : List ℕ) (i j : ℕ) → i < length (heldStates T list) → j < length (heldStates T list)
     → getD (heldStates T list) i 0 ≡ getD (heldStates T list) j 0 → i ≡ j
-held-once T list i j h l e = go (decLt i j) (decLt j i)
-  where
-    go : Dec (i < j) → Dec (j < i) → i ≡ j
-    go (yes less) d = absurd (omega (arith, held-ascending T list i j less l))
-    go (no more) (yes less) = absurd (omega (arith, held-ascending T list j i less h))
-    go (no more) (no less) = omega arith
+held-once T list i j h l e = neither-less i j
+    (λ less. omega (arith, held-ascending T list i j less l))
+    (λ less. omega (arith, held-ascending T list j i less h))
 
 module _ (T : Table) (wf : Wellformed T) (list : List ℕ) where
   -- a state that the root marks is one of the table's

@@ -8,14 +8,16 @@ use native.Mathlib.Nat.{lt-of-lt-of-le}
 use native.Mathlib.Omega.{arith}
 use borrow.Author.Tests.{eqb-true, eq-eqb}
 use lib.Dec.{eqb}
-use lib.ListN.{length, getD, drop, List·getD-eq-default}
+use lib.ListN.{length, getD, drop}
 use Rattle.sets.specs.Member.{member, setOf}
 use Rattle.sets.proofs.Laws.{member-zero}
 use Rattle.sets.proofs.SetOf.{setOf-lt, member-setOf-below, empty}
 use Rattle.table.specs.declared.record.State.{State}
-use Rattle.table.specs.Table.{Table, stateWidth, stateOf, stateAt}
+use Rattle.table.specs.Table.{Table, stateWidth, stateOf, zeroState, stateAt}
 use Rattle.table.specs.Facts.{Wellformed}
 use Rattle.table.specs.StateSets.{initialWord, labelledWord}
+use Rattle.table.proofs.Bools.{same-test, not-so}
+use Rattle.table.proofs.Past.{state-past}
 use Rattle.ctl.specs.Kept.{Total}
 use Rattle.ctl.specs.Levels.{tabulate}
 use Rattle.ctl.specs.Labels.{isKept}
@@ -24,18 +26,15 @@ use Rattle.ctl.proofs.Tabulate.{member-tabulate, tabulate-member, all-true}
 use Rattle.ctl.proofs.Targets.{targets-sound, targets-complete, is-kept, next-inside}
 use Rattle.ctl.proofs.Repair.{is-total}
 use Rattle.label.specs.Words.{keptWord, totalRows}
-use Rattle.label.proofs.Marks.{same-test, wider}
+use Rattle.label.proofs.Marks.{wider}
 use Rattle.label.proofs.Next.{KeptRows, row-member, row-kept}
 
 -- ---- the kept states
 
 -- no state past the last is kept
 pub kept-inside : (T : Table) → Wellformed T → (list : List ℕ) (s : ℕ) → length (T .states) ≤ s → isKept T list s ≡ false
-kept-inside T wf list s h = go (isKept T list s) refl
-  where
-    go : (b : Bool) → isKept T list s ≡ b → isKept T list s ≡ false
-    go true e = let r = is-kept T list s .0 e in absurd (omega (arith, next-inside T wf list s (r .0) (r .1) .0))
-    go false e = e
+kept-inside T wf list s h = not-so (isKept T list s) (λ e.
+    let r = is-kept T list s .0 e in omega (arith, next-inside T wf list s (r .0) (r .1) .0))
 
 module _ {T : Table} {list rows : List ℕ} (k : KeptRows T list rows) where
   -- the states whose rows are not 0 are the kept states
@@ -100,14 +99,10 @@ abbrev pub StateBytes : Table → List ℕ → Type 0
 StateBytes T states = (s : ℕ) → s < length (T .states) → stateOf (drop (stateWidth * s) states) ≡ stateAt T s
 
 module _ (T : Table) (wf : Wellformed T) (states : List ℕ) (records : StateBytes T states) where
-  -- past the last state the record is all zeros
-  state-past : (s : ℕ) → length (T .states) ≤ s → stateAt T s ≡ record { initial = 0; label = 0 }
-  state-past s h = List·getD-eq-default (T .states) _ h
-
   -- a set that is read off the records, of a test that no record of zeros passes
-  read-word : (test : State → Bool) → test (record { initial = 0; label = 0 }) ≡ false
+  read-word : (test : State → Bool) → test zeroState ≡ false
       → setOf (length (T .states)) (λ s. test (stateOf (drop (stateWidth * s) states))) ≡ setOf 32 (λ s. test (stateAt T s))
-  read-word test zeros = wider (length (T .states)) _ _ (wf .few-states) (λ s h. ap test (records s h)) (λ s h. ap test (state-past s h) ∙ zeros)
+  read-word test zeros = wider (length (T .states)) _ _ (wf .few-states) (λ s h. ap test (records s h)) (λ s h. ap test (state-past T s h) ∙ zeros)
 
   -- the initial states
   pub initial-word : initialWord states (length (T .states)) ≡ setOf 32 (λ s. eqb (stateAt T s .initial) 1)

@@ -1,7 +1,7 @@
 -- Sets of at most 32 states, as words and as properties: the operations on words, and a set of fewer states as one of 32.
 use Prim.Native.Nat.{ℕ, _-_, _^_, _≤_, _<_}
-use mathlib.Core.Path.{_≡_, refl, sym, ap, ap₂, _∙_}
-use mathlib.Core.Bool.{Bool, true, false, not, _&&_, _||_}
+use mathlib.Core.Path.{_≡_, sym, ap, ap₂, _∙_}
+use mathlib.Core.Bool.{Bool, false, not, _&&_, _||_}
 use native.Mathlib.Nat.{lt-of-lt-of-le}
 use native.Mathlib.Decide.{decLt}
 use native.Mathlib.Omega.{arith}
@@ -15,12 +15,6 @@ use Rattle.sets.proofs.SetOf.{setOf-lt, member-setOf, member-setOf-below, setOf
 use Rattle.ctl.specs.Levels.{has, tabulate}
 use Rattle.ctl.proofs.Tabulate.{getD-tabulate, getD-tabulate-past}
 use Rattle.label.specs.Words.{full}
-
--- two tests that hold together are the same
-pub same-test : (a b : Bool) → (a ≡ true → b ≡ true) → (b ≡ true → a ≡ true) → a ≡ b
-same-test true b f g = sym (f refl)
-same-test false true f g = g refl
-same-test false false f g = refl
 
 module _ (f g : ℕ → Bool) where
   -- the meet of two words

@@ -17,14 +17,14 @@ use Rattle.table.specs.Table.{Table}
 use Rattle.table.specs.Accept.{all, any, sameStep}
 use Rattle.table.specs.Facts.{Wellformed}
 use Rattle.table.specs.Rows.{Rows}
-use Rattle.table.proofs.Bools.{eqb-sym}
+use Rattle.table.proofs.Bools.{eqb-sym, same-test}
 use Rattle.ctl.specs.Rule.{Quantifier, every, some}
 use Rattle.ctl.specs.Levels.{has, tabulate, nextIn}
 use Rattle.ctl.specs.Labels.{keptSteps, endsFrom, targets, nonempty, isKept}
 use Rattle.ctl.proofs.Tabulate.{any-true}
 use Rattle.ctl.proofs.Targets.{targets-sound, next-inside}
 use Rattle.label.specs.Words.{full, rowNext, nextWord}
-use Rattle.label.proofs.Marks.{same-test, member-not, word-of-marks}
+use Rattle.label.proofs.Marks.{member-not, word-of-marks}
 
 -- the rows of the kept steps of a table, each a word
 pub record KeptRows (T : Table) (list rows : List ℕ) : Type 0 where

@@ -67,9 +67,6 @@ module _ (room : Room) (table list : List ℕ) (ok : analysisVerdict room table 
       × (require ShortBuffer (roomFits room (tableOf table)) then require NotTotal (isTotal (tableOf table) list) ≡ Accepted)
   list-and-rest = then-accepted (listVerdict (length (tableOf table .steps)) list) _ (parts .1)
 
-  pub list-accepted : listVerdict (length (tableOf table .steps)) list ≡ Accepted
-  list-accepted = list-and-rest .0
-
   room-and-total : (require ShortBuffer (roomFits room (tableOf table)) ≡ Accepted) × (require NotTotal (isTotal (tableOf table) list) ≡ Accepted)
   room-and-total = then-accepted (require ShortBuffer (roomFits room (tableOf table))) (require NotTotal (isTotal (tableOf table) list)) (list-and-rest .1)
 

@@ -12,7 +12,7 @@ use lib.ListN.{length, getD, set, drop, replicate, length-set, getD-replicate, d
 use lib.Seq.{drop-cons, getD-set-same, getD-set-other, ext-getD}
 use Rattle.sets.specs.Member.{member, setOf}
 use Rattle.sets.proofs.SetOf.{setOf-lt, member-setOf-below, setOf-cong, empty}
-use Rattle.table.specs.Table.{Table, nodeAt, stateAt}
+use Rattle.table.specs.Table.{Table, nodeAt, stateAt, zeroNode}
 use Rattle.table.specs.Accept.{any}
 use Rattle.table.specs.Facts.{Wellformed}
 use Rattle.table.proofs.Bools.{or-parts}
@@ -20,7 +20,7 @@ use Rattle.ctl.specs.Rule.{Quantifier, every, some, Operator, constant, atom, n
 use Rattle.ctl.specs.Levels.{has, nextIn, levels}
 use Rattle.ctl.specs.Labels.{marks, targets, nonempty, isKept, labelOf, label, marked}
 use Rattle.ctl.proofs.Tabulate.{length-tabulate, getD-tabulate, getD-tabulate-past}
-use Rattle.ctl.proofs.BottomUp.{zeroNode, OfChildren, of-children, bottomUp-length}
+use Rattle.ctl.proofs.BottomUp.{OfChildren, of-children, bottomUp-length}
 use Rattle.ctl.proofs.Targets.{is-kept}
 use Rattle.ctl.proofs.Meaning.{KeptSet, label-of, label-set}
 use Rattle.label.specs.Words.{full, nodeWord, nextWord, passWords}

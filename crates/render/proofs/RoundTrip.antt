@@ -2,23 +2,19 @@
 use Prim.Native.Nat.{ℕ, zero, suc, _+_, _*_, _/_, _%_, _≤_}
 use mathlib.Core.Path.{_≡_, refl, sym, ap, ap₂, _∙_}
 use mathlib.Core.List.{List, [], _∷_, _++_, append-assoc}
-use mathlib.Core.Option.{Option, some}
+use mathlib.Core.Option.{some}
 use native.Mathlib.Nat.{mul-zero, mul-suc}
 use native.Mathlib.Omega.{arith}
-use lib.Dec.{leb}
 use lib.ListN.{length, take, drop, length-drop, take-append-drop}
 use lib.Seq.{take-all, length-take-le, drop-drop}
-use Rattle.table.specs.declared.refusal.Refusal.the-variants.{ShortBuffer}
 use Rattle.table.specs.declared.refusal.Verdict.the-variants.{Accepted}
-use Rattle.table.specs.Verdict.{require, _then_}
 use Rattle.table.specs.Table.{records, countsOf, packedLength, stateOf, stepOf, nodeOf, statesPart, stepsPart, nodesPart, stateWidth, stepWidth, nodeWidth, headerWidth}
 use Rattle.table.specs.Accept.{tableVerdict}
 use Rattle.table.proofs.Accepted.{header-accepted}
-use Rattle.table.proofs.Verdicts.{then-next}
 use Rattle.sheet.specs.declared.answer.Read.the-variants.{Length}
 use Rattle.sheet.specs.Form.{Sheet, InRange, bytesOf, render}
 use Rattle.sheet.specs.Parse.{parse}
-use Rattle.sheet.specs.Read.{packCounts, packState, packStep, packNode, pack, sheetVerdict, readVerdict, readAnswer, readBuffer}
+use Rattle.sheet.specs.Read.{packCounts, packState, packStep, packNode, pack, readAnswer, readBuffer}
 use Rattle.sheet.proofs.Whole.{parse-exact, parse-render}
 use Rattle.sheet.proofs.Packed.{counts-pack, table-pack}
 use Rattle.sheet.proofs.Outcome.{accepted-read}
@@ -108,14 +104,6 @@ module _ (l : List ℕ) (b : Bytes l) (accepted : tableVerdict l ≡ Accepted) w
   -- its sheet parses to its values
   pub parse-rendered : parse (render (sheetOf l)) ≡ some (sheetOf l)
   parse-rendered = parse-render (sheetOf l) (sheet-range l b)
-
-  -- only the lent buffer can be refused
-  pub verdict-rendered : (room : ℕ) → readVerdict (render (sheetOf l)) room ≡ require ShortBuffer (leb (length l) room)
-  unfolding readVerdict
-  verdict-rendered room =
-      ap (λ (p : Option Sheet). sheetVerdict p room) parse-rendered
-      ∙ ap (λ (t : List ℕ). tableVerdict t then require ShortBuffer (leb (length t) room)) same
-      ∙ then-next (tableVerdict l) (require ShortBuffer (leb (length l) room)) accepted
 
   -- into a buffer that is long enough: the length and the table come back
   pub read-rendered : (out : List ℕ) → length l ≤ length out → (readAnswer (render (sheetOf l)) out ≡ Length (length l)) × (readBuffer (render (sheetOf l)) out ≡ l ++ drop (length l) out)

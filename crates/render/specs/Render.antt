@@ -8,7 +8,7 @@ use lib.Seq.{sets}
 use Rattle.table.specs.declared.refusal.Refusal.the-variants.{ShortBuffer}
 use Rattle.table.specs.declared.refusal.Verdict.{Verdict}
 use Rattle.table.specs.declared.refusal.Verdict.the-variants.{Accepted, Refused}
-use Rattle.table.specs.Verdict.{require, _then_, refusalNumber}
+use Rattle.table.specs.Verdict.{require, _then_}
 use Rattle.table.specs.Table.{countsOf, statesOf, stepsOf, nodesOf}
 use Rattle.table.specs.Accept.{tableVerdict}
 use Rattle.sheet.specs.Form.{Sheet, render}
@@ -35,11 +35,6 @@ renderAnswer table out = rendered (renderVerdict table (length out)) (render (sh
 
 abbrev pub renderBuffer : List ℕ → List ℕ → List ℕ
 renderBuffer table out = buffer (renderVerdict table (length out)) (render (sheetOf table)) out
-
--- the number of each case: 0 for a length, else the refusal's
-abbrev pub renderNumber : Rendered → ℕ
-renderNumber (Length n) = 0
-renderNumber (RenderRefused r) = refusalNumber r
 
 -- bytes have room in a text from a place on
 abbrev pub Room : List ℕ → ℕ → List ℕ → Type 0

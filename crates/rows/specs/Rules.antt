@@ -2,7 +2,7 @@
 -- forced of them is worked out from the rows beside them. A and E, and AND and OR, are duals: the rules are those of A and of AND, and
 -- `turned` takes the rows of the others.
 use Prim.Native.Nat.{ℕ}
-use mathlib.Core.Bool.{Bool, true, false, not, cond, _&&_, _||_}
+use mathlib.Core.Bool.{Bool, not, cond, _&&_, _||_}
 use lib.Bits.{bitAnd, bitOr}
 use lib.Dec.{eqb, ltb}
 use Rattle.sets.specs.Member.{member, setOf}
@@ -10,7 +10,7 @@ use Rattle.rows.specs.declared.row.Row.{Row}
 use Rattle.rows.specs.declared.family.Family.{Family}
 use Rattle.rows.specs.declared.family.Family.the-variants.{Release}
 use Rattle.rows.specs.declared.family.Joined.{Joined}
-use Rattle.rows.specs.Row.{known, without, only, clashes}
+use Rattle.rows.specs.Row.{without, only, clashes}
 
 abbrev pub row : ℕ → ℕ → Row
 row t f = record { yes = t; no = f }

@@ -1,10 +1,8 @@
--- The search of a table from nothing chosen, in the code's steps; and the words of which it lends a part.
-use Prim.Native.Nat.{ℕ, _-_, _+_, _≤_}
+-- The search of a table from nothing chosen, in the code's steps.
+use Prim.Native.Nat.{ℕ}
 use native.Mathlib.Omega.{arith}
-use mathlib.Core.Path.{_≡_, refl, sym, ap, subst, _∙_}
-use mathlib.Core.List.{List, [], _++_}
-use lib.ListN.{length, getD, drop, length-append, length-drop}
-use lib.Seq.{getD-append-add, getD-drop}
+use mathlib.Core.Path.{_≡_, refl, sym, subst, _∙_}
+use mathlib.Core.List.{List, []}
 use Rattle.table.specs.Table.{Table}
 use Rattle.closure.specs.Memory.{Memory}
 use Rattle.search.specs.declared.outcome.Outcome.{Outcome as Answer}
@@ -42,18 +40,3 @@ module _ (T : Table) (cap : ℕ) (M : Memory) (list between : List ℕ) (reached
         subst (λ x. Gives T x list after r)
         (sym (as-search T cap ∙ search-marked T cap 0 [] 0 (s .closed) ∙ walk-passed T cap [] (there .0) 0 0 k (omega arith) (omega (arith, s .inside)) (s .settled)))
         (subst (λ l. Gives T (walkFrom T cap k [] (there .0) 0) l after r) (there .2) (rest [] (there .0) (there .1)))
-
--- ---- a part that comes back
-
-module _ (part words : List ℕ) (n : ℕ) (size : length part ≡ n) (fits : n ≤ length words) where
-  pub whole-length : length (part ++ drop n words) ≡ length words
-  whole-length = omega (arith, length-append part (drop n words), length-drop n words)
-
-  pub whole-beyond : (k : ℕ) → n ≤ k → getD (part ++ drop n words) k 0 ≡ getD words k 0
-  whole-beyond k h =
-      let past : k ≡ length part + (k - n) = omega arith in
-      let back : n + (k - n) ≡ k = omega arith in
-      ap (λ (i : ℕ). getD (part ++ drop n words) i 0) past
-      ∙ getD-append-add part (drop n words) (k - n) 0
-      ∙ getD-drop n words (k - n) 0
-      ∙ ap (λ (i : ℕ). getD words i 0) back

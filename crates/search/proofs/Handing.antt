@@ -26,25 +26,23 @@ module _ {table : List ℕ} {net : Net} {targets bases rows words list : List �
   }
 
   -- rows of the right size, and buffers as long
-  pub handed-on : {rows′ words′ list′ : List ℕ} → Sized (tableOf table) (memory rows′ words′) → length words′ ≡ length words → length list′ ≡ length list
-      → Handed table net targets bases rows′ words′ list′
-  handed-on sized same-words same-list = record {
+  handed-with : {rows′ words′ list′ : List ℕ} → length rows′ ≡ 130 → ((k : ℕ) → getD rows′ k 0 < 2 ^ 32) → length words′ ≡ length words
+      → length list′ ≡ length list → Handed table net targets bases rows′ words′ list′
+  handed-with size small same-words same-list = record {
     setting = h .setting;
-    rows-size = sized .rows-size;
-    small-rows = sized .small-rows;
+    rows-size = size;
+    small-rows = small;
     words-size = same-words ∙ h .words-size;
     list-size = omega (arith, h .list-size);
   }
 
+  pub handed-on : {rows′ words′ list′ : List ℕ} → Sized (tableOf table) (memory rows′ words′) → length words′ ≡ length words → length list′ ≡ length list
+      → Handed table net targets bases rows′ words′ list′
+  handed-on sized = handed-with (sized .rows-size) (sized .small-rows)
+
   -- the same rows again
   pub handed-again : {words′ list′ : List ℕ} → length words′ ≡ length words → length list′ ≡ length list → Handed table net targets bases rows words′ list′
-  handed-again same-words same-list = record {
-    setting = h .setting;
-    rows-size = h .rows-size;
-    small-rows = h .small-rows;
-    words-size = same-words ∙ h .words-size;
-    list-size = omega (arith, h .list-size);
-  }
+  handed-again = handed-with (h .rows-size) (h .small-rows)
 
   -- the same rows, with words of 0
   pub handed-zeroed : Sized (tableOf table) (memory rows (replicate (length words) 0))

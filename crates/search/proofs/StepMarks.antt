@@ -7,6 +7,7 @@ use mathlib.Core.List.{List}
 use lib.ListN.{length}
 use lib.Seq.{ext-getD}
 use Rattle.table.specs.Table.{Table, stepAt}
+use Rattle.table.proofs.Bools.{same-test}
 use Rattle.ctl.proofs.Tabulate.{length-tabulate, getD-tabulate}
 use Rattle.closure.specs.Closure.{Mark, unknown, known, Marks, markAt, isKnown}
 use Rattle.closure.specs.Closes.{stepKnown}
@@ -18,11 +19,6 @@ use Rattle.search.proofs.Agree.{length-bytesOf, getD-bytesOf}
 abbrev isSign : Bool → Mark → Bool
 isSign sign unknown = false
 isSign sign (known b) = Bool·beq b sign
-
-same-test : (a b : Bool) → (a ≡ true → b ≡ true) → (b ≡ true → a ≡ true) → a ≡ b
-same-test true b to from = sym (to refl)
-same-test false true to from = from refl
-same-test false false to from = refl
 
 sign-true : (sign : Bool) (x : Mark) → isSign sign x ≡ true → x ≡ known sign
 sign-true sign unknown e = absurd (false≢true e)

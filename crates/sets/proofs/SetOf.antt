@@ -170,12 +170,6 @@ lowestOf-least n f s e = le-of-suc-le-suc (lt-of-not-le (λ h. false≢true (sym
 lowest-found : (w m : ℕ) → m < 2 ^ w → ¬ (m ≡ 0) → lowestOf w (member m) < w
 lowest-found w m h some = lt-of-not-le (λ l. some (empty w m h (λ s k. lowestOf-before w (member m) s (omega arith))))
 
--- the zeros below the lowest set bit lead to the lowest member of a set that is not 0
-pub lowest-member : (w m : ℕ) → m < 2 ^ w → ¬ (m ≡ 0)
-    → (trailingZeros w m < w) × (member m (trailingZeros w m) ≡ true) × ((s : ℕ) → s < trailingZeros w m → member m s ≡ false)
-lowest-member w m h some =
-    rw (zeros-lowest w m) (lowest-found w m h some, lowestOf-has w (member m) (lowest-found w m h some), lowestOf-before w (member m))
-
 -- a set that is not 0 has a member
 pub some-member : (w m : ℕ) → m < 2 ^ w → ¬ (m ≡ 0) → (s : ℕ) × (s < w) × (member m s ≡ true)
 some-member w m h some = (lowestOf w (member m), lowest-found w m h some, lowestOf-has w (member m) (lowest-found w m h some))

@@ -105,6 +105,3 @@ render-injective v w h k e =
 -- a text is of sheet form exactly when it parses
 pub sheet-parses : (text : List ℕ) → IsSheet text ↔ ((v : Sheet) × (parse text ≡ some v))
 sheet-parses text = (λ s. (s .0, parse-exact text (s .0) .1 (s .1, s .2)), λ p. (let q = parse-exact text (p .0) .0 (p .1) in (p .0, q .0, q .1)))
-
-pub not-sheet : (text : List ℕ) → parse text ≡ none → IsSheet text → ⊥
-not-sheet text e s = none-some (s .0) (sym e ∙ parse-exact text (s .0) .1 (s .1, s .2))

@@ -1,6 +1,6 @@
 -- What every accepted table has, and that a record read from a section is the table's record.
 use Prim.Native.Nat.{ℕ, _*_, _^_, _≤_, _<_}
-use mathlib.Core.Path.{_≡_, sym, ap, subst, _∙_}
+use mathlib.Core.Path.{_≡_, refl, sym, ap, subst, _∙_}
 use mathlib.Core.Bool.{true}
 use mathlib.Core.List.{List}
 use native.Mathlib.Nat.{zero-add}
@@ -31,6 +31,17 @@ step-read bytes j h = sym (records-at stepOf stepWidth (countsOf bytes .steps) (
 
 pub node-read : (bytes : List ℕ) (i : ℕ) → i < countsOf bytes .nodes → nodeOf (drop (nodeWidth * i) (nodesPart bytes)) ≡ nodeAt (tableOf bytes) i
 node-read bytes i h = sym (records-at nodeOf nodeWidth (countsOf bytes .nodes) (nodesPart bytes) i zeroNode h)
+
+-- counts that were read are those of the records
+module _ (bytes : List ℕ) (k : Counts) (e : k ≡ countsOf bytes) where
+  pub states-are : k .states ≡ length (tableOf bytes .states)
+  states-are = ap (λ (c : Counts). c .states) e ∙ sym (records-length stateOf stateWidth (countsOf bytes .states) (statesPart bytes))
+
+  pub steps-are : k .steps ≡ length (tableOf bytes .steps)
+  steps-are = ap (λ (c : Counts). c .steps) e ∙ sym (records-length stepOf stepWidth (countsOf bytes .steps) (stepsPart bytes))
+
+  pub nodes-are : k .nodes ≡ length (tableOf bytes .nodes)
+  nodes-are = ap (λ (c : Counts). c .nodes) e ∙ sym (records-length nodeOf nodeWidth (countsOf bytes .nodes) (nodesPart bytes))
 
 -- 3, as bounds on n, e, f and p
 pub record Within (n e f p : ℕ) : Type 0 where
@@ -118,9 +129,9 @@ pub accepted : (bytes : List ℕ) → tableVerdict bytes ≡ Accepted → Packed
 accepted bytes v =
     let t = header-accepted bytes v in
     let w = counts-within (countsOf bytes) (t .0) in
-    let n = records-length stateOf stateWidth (countsOf bytes .states) (statesPart bytes) in
-    let e = records-length stepOf stepWidth (countsOf bytes .steps) (stepsPart bytes) in
-    let f = records-length nodeOf nodeWidth (countsOf bytes .nodes) (nodesPart bytes) in
+    let n = sym (states-are bytes _ refl) in
+    let e = sym (steps-are bytes _ refl) in
+    let f = sym (nodes-are bytes _ refl) in
     record {
       states-count = n;
       steps-count = e;

@@ -1,9 +1,9 @@
--- Facts on tests joined by `&&` and `||`, and on equality tests.
+-- Facts on tests: joined by `&&` and `||`, that hold together, and of equality.
 use Prim.Native.Nat.{ℕ}
 use mathlib.Core.Path.{_≡_, refl, sym}
 use mathlib.Core.Logic.{_⊎_, inl, inr}
 use mathlib.Core.Bool.{Bool, true, false, _&&_, _||_, true≢false, false≢true}
-use borrow.Author.Tests.{eqb-true, eqb-false, eq-eqb, ne-eqb}
+use borrow.Author.Tests.{eqb-true, eq-eqb}
 use lib.Dec.{eqb}
 
 -- the two parts of a test that holds, and back
@@ -33,10 +33,17 @@ pub or-neither : (a b : Bool) → a || b ≡ false → (a ≡ false) × (b ≡ f
 or-neither true b e = absurd (true≢false e)
 or-neither false b e = (refl, e)
 
+-- a test that is not true is false
+pub not-so : (b : Bool) → ¬ (b ≡ true) → b ≡ false
+not-so true n = absurd (n refl)
+not-so false n = refl
+
+-- two tests that hold together are the same
+pub same-test : (a b : Bool) → (a ≡ true → b ≡ true) → (b ≡ true → a ≡ true) → a ≡ b
+same-test true b f g = sym (f refl)
+same-test false true f g = g refl
+same-test false false f g = refl
+
 -- two numbers may be compared either way round
 pub eqb-sym : (a b : ℕ) → eqb a b ≡ eqb b a
-eqb-sym a b = go (eqb b a) refl
-  where
-    go : (t : Bool) → eqb b a ≡ t → eqb a b ≡ t
-    go true e = eq-eqb a b (sym (eqb-true b a e))
-    go false e = ne-eqb a b (λ q. eqb-false b a e (sym q))
+eqb-sym a b = same-test (eqb a b) (eqb b a) (λ e. eq-eqb b a (sym (eqb-true a b e))) (λ e. eq-eqb a b (sym (eqb-true b a e)))

@@ -13,6 +13,10 @@ pub two : (P : ℕ → Type 0) (a k : ℕ) → a ≤ k → k < suc (suc a) → P
 two P a k low high pa pb =
     elim (ℕ-discrete a k) [ yes e ↦ subst P e pa | no d ↦ (let e : suc a ≡ k = omega (arith, d) in subst P e pb) ]
 
+-- two numbers neither of which is less are the same
+pub neither-less : (i j : ℕ) → ¬ (i < j) → ¬ (j < i) → i ≡ j
+neither-less i j p q = omega (arith, p, q)
+
 -- a number shifted right by p is 0 exactly when it is below 2 ^ p
 pub shifted-out : (x p : ℕ) → eqb (x / 2 ^ p) 0 ≡ ltb x (2 ^ p)
 shifted-out x p =

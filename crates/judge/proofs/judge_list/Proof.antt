@@ -78,31 +78,25 @@ returns-2 c =
 minus-requires : tie.Need-minus-requires
 minus-requires c κs = search needs
 
+-- what is left once an initial state is known to be kept: whether the root is marked at each of them
+root-left : (c : tie.After-minus)
+    → let s = c .before .before .before .before .before .before .before .before in judgeVerdict (now (s .args .table)) (now (s .args .list)) ≡ require RootFails (eqb (c .minus .result) 0)
+root-left c =
+    let s = c .before .before .before .before .before .before .before .before in
+    let t = now (s .args .table) in
+    let l = now (s .args .list) in
+    let A = c .before .before .before .before .before .analyse in
+    let ok = c .before .before .before .enum-told2 .given .1 in
+    let w = c .before .before .intersection in
+    let some : keepsInitial (tableOf t) l ≡ true = sym (keeps t l (A .result) (A .ensures) ok (w .result) (w .ensures)) ∙ ap not (ne-eqb (w .result) 0 (c .before .if1 .left)) in
+    left t l (A .result) (A .ensures) ok
+    ∙ (λ j. require NoInitialKept (some j) then require RootFails (sym (root-marks t l (A .result) (A .ensures) ok (w .result) (w .ensures) (c .minus .result) (c .minus .ensures)) j))
+
 returns-3 : tie.Need-returns-3
-returns-3 c =
-    let t = now (c .before .before .before .before .before .before .before .before .before .args .table) in
-    let l = now (c .before .before .before .before .before .before .before .before .before .args .list) in
-    let A = c .before .before .before .before .before .before .analyse .result in
-    let E = c .before .before .before .before .before .before .analyse .ensures in
-    let ok = c .before .before .before .before .enum-told2 .given .1 in
-    let w = c .before .before .before .intersection .result in
-    let f = c .before .before .before .intersection .ensures in
-    let some : keepsInitial (tableOf t) l ≡ true = sym (keeps t l A E ok w f) ∙ ap not (ne-eqb w 0 (c .before .before .if1 .left)) in
-    let fails : rootMarked (tableOf t) l ≡ false = sym (root-marks t l A E ok w f (c .before .minus .result) (c .before .minus .ensures)) ∙ ne-eqb (c .before .minus .result) 0 (c .if2 .taken) in
-    sym (left t l A E ok ∙ (λ j. require NoInitialKept (some j) then require RootFails (fails j)))
+returns-3 c = sym (root-left (c .before) ∙ ap (require RootFails) (ne-eqb (c .before .minus .result) 0 (c .if2 .taken)))
 
 returns-4 : tie.Need-returns-4
-returns-4 c =
-    let t = now (c .before .before .before .before .before .before .before .before .before .args .table) in
-    let l = now (c .before .before .before .before .before .before .before .before .before .args .list) in
-    let A = c .before .before .before .before .before .before .analyse .result in
-    let E = c .before .before .before .before .before .before .analyse .ensures in
-    let ok = c .before .before .before .before .enum-told2 .given .1 in
-    let w = c .before .before .before .intersection .result in
-    let f = c .before .before .before .intersection .ensures in
-    let some : keepsInitial (tableOf t) l ≡ true = sym (keeps t l A E ok w f) ∙ ap not (ne-eqb w 0 (c .before .before .if1 .left)) in
-    let holds : rootMarked (tableOf t) l ≡ true = sym (root-marks t l A E ok w f (c .before .minus .result) (c .before .minus .ensures)) ∙ eq-eqb (c .before .minus .result) 0 (c .if2 .left) in
-    ok ∙ sym (left t l A E ok ∙ (λ j. require NoInitialKept (some j) then require RootFails (holds j)))
+returns-4 c = c .before .before .before .before .enum-told2 .given .1 ∙ sym (root-left (c .before) ∙ ap (require RootFails) (eq-eqb (c .before .minus .result) 0 (c .if2 .left)))
 
 pub judge-list-spec : {M : Type 1} → statement M
 judge-list-spec =

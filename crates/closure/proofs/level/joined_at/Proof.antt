@@ -1,6 +1,6 @@
 -- `joined_at` meets its contract: what was read is what the model reads.
 use Prim.Native.Nat.{ℕ, suc}
-use mathlib.Core.Path.{_≡_, refl, ap, _∙_}
+use mathlib.Core.Path.{_≡_, ap, _∙_}
 use native.Mathlib.Numerals.{add-one}
 use native.Mathlib.Omega.{arith}
 use denote.Ref.{now}

@@ -1,6 +1,6 @@
 -- `next_step` meets its contract: N is added to the node, and what the node then knows beside it is taken back to the steps and to a.
-use mathlib.Core.Path.{_≡_, refl, sym, ap, _∙_}
-use mathlib.Core.Bool.{Bool, true, false, _||_, or-false}
+use mathlib.Core.Path.{_≡_, sym, ap, _∙_}
+use mathlib.Core.Bool.{true, false, or-false}
 use native.Mathlib.Omega.{arith}
 use lib.ListN.{getD}
 use denote.Ref.{now}
@@ -11,7 +11,7 @@ use Rattle.rows.specs.Rules.{aheadRow, newOf, isNone}
 use Rattle.rows.specs.Words.{rowAt, stepPlace, bothReports}
 use Rattle.closure.specs.Memory.{nodePlace}
 use Rattle.rows.specs.Back.{quietReport, backRows, backRow, backReport}
-use Rattle.closure.specs.Sweep.{memory, stepped, addRow, nodeRow, goBackMore}
+use Rattle.closure.specs.Sweep.{stepped, addRow, nodeRow, goBackMore}
 use Rattle.closure.proofs.Chain.{added, after, after-add}
 use borrow.Author.Needs.{needs}
 use Rattle.closure.proofs.node.next_step.Statement.{statement}

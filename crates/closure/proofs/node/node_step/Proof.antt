@@ -1,7 +1,7 @@
 -- `node_step` meets its contract, kind by kind.
-use Prim.Native.Nat.{ℕ, _^_, _≤_, _<_}
-use mathlib.Core.Path.{_≡_, refl, sym, ap, _∙_}
-use mathlib.Core.Bool.{Bool, true, false, _&&_, and-true, and-false}
+use Prim.Native.Nat.{ℕ, _≤_}
+use mathlib.Core.Path.{_≡_, sym, ap, _∙_}
+use mathlib.Core.Bool.{Bool, true, false, and-true, and-false}
 use mathlib.Core.List.{List}
 use native.Mathlib.Nat.{lt-of-lt-of-le}
 use native.Mathlib.Omega.{arith}
@@ -13,10 +13,9 @@ use Rattle.sets.proofs.SetOf.{setOf-unique, setOf-lt, member-setOf, empty}
 use Rattle.table.specs.StateSets.{labelledWord}
 use Rattle.ctl.specs.Rule.{Operator}
 use Rattle.ctl.proofs.OfKind.{of-kind, no-kind}
-use Rattle.rows.specs.declared.family.Family.the-variants.{Release}
 use Rattle.rows.specs.Rules.{constantRow}
 use Rattle.closure.specs.Memory.{nodePlace}
-use Rattle.closure.specs.Sweep.{memory, levelsFrom, nodeStep}
+use Rattle.closure.specs.Sweep.{Stepped, memory, fixpointAt, levelsFrom, nodeStep}
 use Rattle.closure.proofs.Chain.{added}
 use borrow.Author.Needs.{needs}
 use Rattle.closure.proofs.node.node_step.Statement.{statement}
@@ -29,6 +28,14 @@ all-states n h = sym (setOf-unique 32 (λ t. ltb t n) (setOf n (λ s. true))
 
 no-states : (n : ℕ) → setOf n (λ s. false) ≡ 0
 no-states n = empty n _ (setOf-lt n _) (λ s h. member-setOf n _ s ∙ and-false (ltb s n))
+
+-- the model's step for an operator
+abbrev stepOf : tie.Start → List ℕ → Operator → Stepped
+stepOf s bases o = nodeStep (now (s .args .table)) (now (s .args .targets)) bases (s .args .n) (s .args .down) (s .args .i) o (memory (now (s .args .rows)) (now (s .args .words)))
+
+-- the levels of a release, where they lie from k on
+abbrev released : tie.Start → Bool → ℕ → Stepped
+released s every k = levelsFrom (now (s .args .targets)) (s .args .n) (fixpointAt (s .args .i) every (s .args .x .a) (s .args .x .b) k) (s .args .down) (s .args .n) (memory (now (s .args .rows)) (now (s .args .words))) .done
 
 mul-add : tie.Need-mul-add
 mul-add c = search needs
@@ -78,31 +85,15 @@ next-step-requires c κs = search needs
 next-step-requires-2 : tie.Need-next-step-requires-2
 next-step-requires-2 c κs = search needs
 
-levels-step-requires : tie.Need-levels-step-requires
-levels-step-requires c κs =
-    let p = c .before .before .before .before .before .before .before .pre in (
-      record {
-        rows-size = p .0 .1 .1 .1;
-        node-below = p .0 .0;
-        a-below = p .0 .1 .0;
-        b-below = p .0 .1 .1 .0;
-        levels-below = p .1 .1 (omega (arith, c .before .before .match .keys8));
-      },
-      p .1 .0,
-    )
+release-step-requires : tie.Need-release-step-requires
+release-step-requires c κs =
+    let p = c .before .before .before .before .before .before .before .pre in
+    (p .0, (p .1 .0, p .1 .1 (omega (arith, c .before .before .match .keys8))))
 
-levels-step-requires-2 : tie.Need-levels-step-requires-2
-levels-step-requires-2 c κs =
-    let p = c .before .before .before .before .before .before .before .pre in (
-      record {
-        rows-size = p .0 .1 .1 .1;
-        node-below = p .0 .0;
-        a-below = p .0 .1 .0;
-        b-below = p .0 .1 .1 .0;
-        levels-below = p .1 .1 (omega (arith, c .before .before .match .keys9));
-      },
-      p .1 .0,
-    )
+release-step-requires-2 : tie.Need-release-step-requires-2
+release-step-requires-2 c κs =
+    let p = c .before .before .before .before .before .before .before .pre in
+    (p .0, (p .1 .0, p .1 .1 (omega (arith, c .before .before .match .keys9))))
 
 mul-add-3 : tie.Need-mul-add-3
 mul-add-3 c = search needs
@@ -122,8 +113,10 @@ same-length c = search needs
 returns : tie.Need-returns
 unfolding nodeStep
 returns c =
-    let a = c .before .before .before .before .before .before .before .before .before .before .before .args in
-    λ bases e. added (now (a .rows)) (nodePlace (a .i)) (c .before .before .before .constant-row .ensures ∙ ap (constantRow (a .n)) (c .before .before .before .before .below .ensures ∙ all-states (a .n) (c .before .before .before .before .before .before .before .before .before .before .before .pre .1 .0 .0))) (c .before .before .add .ensures) (now (a .words)) ∙ sym (ap (λ (o : Operator). nodeStep (now (a .table)) (now (a .targets)) bases (a .n) (a .down) (a .i) o (memory (now (a .rows)) (now (a .words)))) (of-kind (a .x) 1 (c .before .before .before .before .before .before .match .keys1)))
+    let start = c .before .before .before .before .before .before .before .before .before .before .before in
+    let a = start .args in
+    λ bases e. added (now (a .rows)) (nodePlace (a .i)) (c .before .before .before .constant-row .ensures ∙ ap (constantRow (a .n)) (c .before .before .before .before .below .ensures ∙ all-states (a .n) (c .before .before .before .before .before .before .before .before .before .before .before .pre .1 .0 .0))) (c .before .before .add .ensures) (now (a .words))
+    ∙ sym (ap (stepOf start bases) (of-kind (a .x) 1 (c .before .before .before .before .before .before .match .keys1)))
 
 same-length-2 : tie.Need-same-length-2
 same-length-2 c = search needs
@@ -131,8 +124,10 @@ same-length-2 c = search needs
 returns-2 : tie.Need-returns-2
 unfolding nodeStep
 returns-2 c =
-    let a = c .before .before .before .before .before .before .before .before .before .before .before .before .args in
-    λ bases e. added (now (a .rows)) (nodePlace (a .i)) (c .before .before .before .constant-row2 .ensures ∙ ap (constantRow (a .n)) (c .before .before .before .before .before .labelled-states .ensures ∙ ap (λ (l : List ℕ). labelledWord l (a .n) (a .x .a)) (c .before .before .before .before .before .before .states-part .ensures))) (c .before .before .add2 .ensures) (now (a .words)) ∙ sym (ap (λ (o : Operator). nodeStep (now (a .table)) (now (a .targets)) bases (a .n) (a .down) (a .i) o (memory (now (a .rows)) (now (a .words)))) (of-kind (a .x) 2 (c .before .before .before .before .before .before .before .match .keys2)))
+    let start = c .before .before .before .before .before .before .before .before .before .before .before .before in
+    let a = start .args in
+    λ bases e. added (now (a .rows)) (nodePlace (a .i)) (c .before .before .before .constant-row2 .ensures ∙ ap (constantRow (a .n)) (c .before .before .before .before .before .labelled-states .ensures ∙ ap (λ (l : List ℕ). labelledWord l (a .n) (a .x .a)) (c .before .before .before .before .before .before .states-part .ensures))) (c .before .before .add2 .ensures) (now (a .words))
+    ∙ sym (ap (stepOf start bases) (of-kind (a .x) 2 (c .before .before .before .before .before .before .before .match .keys2)))
 
 same-length-3 : tie.Need-same-length-3
 same-length-3 c = search needs
@@ -140,8 +135,10 @@ same-length-3 c = search needs
 returns-3 : tie.Need-returns-3
 unfolding nodeStep
 returns-3 c =
-    let a = c .before .before .before .before .before .before .before .before .before .args in
-    λ bases e. c .before .before .same-step .ensures (now (a .words)) ∙ sym (ap (λ (o : Operator). nodeStep (now (a .table)) (now (a .targets)) bases (a .n) (a .down) (a .i) o (memory (now (a .rows)) (now (a .words)))) (of-kind (a .x) 3 (c .before .before .before .before .match .keys3)))
+    let start = c .before .before .before .before .before .before .before .before .before in
+    let a = start .args in
+    λ bases e. c .before .before .same-step .ensures (now (a .words))
+    ∙ sym (ap (stepOf start bases) (of-kind (a .x) 3 (c .before .before .before .before .match .keys3)))
 
 same-length-4 : tie.Need-same-length-4
 same-length-4 c = search needs
@@ -149,8 +146,10 @@ same-length-4 c = search needs
 returns-4 : tie.Need-returns-4
 unfolding nodeStep
 returns-4 c =
-    let a = c .before .before .before .before .before .before .before .before .before .args in
-    λ bases e. c .before .before .pair-step .ensures (now (a .words)) ∙ sym (ap (λ (o : Operator). nodeStep (now (a .table)) (now (a .targets)) bases (a .n) (a .down) (a .i) o (memory (now (a .rows)) (now (a .words)))) (of-kind (a .x) 4 (c .before .before .before .before .match .keys4)))
+    let start = c .before .before .before .before .before .before .before .before .before in
+    let a = start .args in
+    λ bases e. c .before .before .pair-step .ensures (now (a .words))
+    ∙ sym (ap (stepOf start bases) (of-kind (a .x) 4 (c .before .before .before .before .match .keys4)))
 
 same-length-5 : tie.Need-same-length-5
 same-length-5 c = search needs
@@ -158,8 +157,10 @@ same-length-5 c = search needs
 returns-5 : tie.Need-returns-5
 unfolding nodeStep
 returns-5 c =
-    let a = c .before .before .before .before .before .before .before .before .before .args in
-    λ bases e. c .before .before .pair-step2 .ensures (now (a .words)) ∙ sym (ap (λ (o : Operator). nodeStep (now (a .table)) (now (a .targets)) bases (a .n) (a .down) (a .i) o (memory (now (a .rows)) (now (a .words)))) (of-kind (a .x) 5 (c .before .before .before .before .match .keys5)))
+    let start = c .before .before .before .before .before .before .before .before .before in
+    let a = start .args in
+    λ bases e. c .before .before .pair-step2 .ensures (now (a .words))
+    ∙ sym (ap (stepOf start bases) (of-kind (a .x) 5 (c .before .before .before .before .match .keys5)))
 
 same-length-6 : tie.Need-same-length-6
 same-length-6 c = search needs
@@ -167,8 +168,10 @@ same-length-6 c = search needs
 returns-6 : tie.Need-returns-6
 unfolding nodeStep
 returns-6 c =
-    let a = c .before .before .before .before .before .before .before .before .before .args in
-    λ bases e. c .before .before .next-step .ensures (now (a .words)) ∙ sym (ap (λ (o : Operator). nodeStep (now (a .table)) (now (a .targets)) bases (a .n) (a .down) (a .i) o (memory (now (a .rows)) (now (a .words)))) (of-kind (a .x) 6 (c .before .before .before .before .match .keys6)))
+    let start = c .before .before .before .before .before .before .before .before .before in
+    let a = start .args in
+    λ bases e. c .before .before .next-step .ensures (now (a .words))
+    ∙ sym (ap (stepOf start bases) (of-kind (a .x) 6 (c .before .before .before .before .match .keys6)))
 
 same-length-7 : tie.Need-same-length-7
 same-length-7 c = search needs
@@ -176,8 +179,10 @@ same-length-7 c = search needs
 returns-7 : tie.Need-returns-7
 unfolding nodeStep
 returns-7 c =
-    let a = c .before .before .before .before .before .before .before .before .before .args in
-    λ bases e. c .before .before .next-step2 .ensures (now (a .words)) ∙ sym (ap (λ (o : Operator). nodeStep (now (a .table)) (now (a .targets)) bases (a .n) (a .down) (a .i) o (memory (now (a .rows)) (now (a .words)))) (of-kind (a .x) 7 (c .before .before .before .before .match .keys7)))
+    let start = c .before .before .before .before .before .before .before .before .before in
+    let a = start .args in
+    λ bases e. c .before .before .next-step2 .ensures (now (a .words))
+    ∙ sym (ap (stepOf start bases) (of-kind (a .x) 7 (c .before .before .before .before .match .keys7)))
 
 same-length-8 : tie.Need-same-length-8
 same-length-8 c = search needs
@@ -188,8 +193,10 @@ same-length-9 c = search needs
 returns-8 : tie.Need-returns-8
 unfolding nodeStep
 returns-8 c =
-    let a = c .before .before .before .before .before .before .before .before .before .before .before .before .args in
-    λ bases e. c .before .before .before .before .levels-step .ensures ∙ ap (λ (k : ℕ). levelsFrom (now (a .targets)) (a .n) (record { family = Release; node = a .i; a = a .x .a; b = a .x .b; every = true; base = k }) (a .down) (a .n) (memory (now (a .rows)) (now (a .words))) .done) (sym e) ∙ sym (ap (λ (o : Operator). nodeStep (now (a .table)) (now (a .targets)) bases (a .n) (a .down) (a .i) o (memory (now (a .rows)) (now (a .words)))) (of-kind (a .x) 8 (c .before .before .before .before .before .before .before .match .keys8)))
+    let start = c .before .before .before .before .before .before .before .before .before .before .before .before in
+    let a = start .args in
+    λ bases e. c .before .before .before .before .release-step .ensures ∙ ap (released start true) (sym e)
+    ∙ sym (ap (stepOf start bases) (of-kind (a .x) 8 (c .before .before .before .before .before .before .before .match .keys8)))
 
 same-length-10 : tie.Need-same-length-10
 same-length-10 c = search needs
@@ -200,8 +207,10 @@ same-length-11 c = search needs
 returns-9 : tie.Need-returns-9
 unfolding nodeStep
 returns-9 c =
-    let a = c .before .before .before .before .before .before .before .before .before .before .before .before .args in
-    λ bases e. c .before .before .before .before .levels-step2 .ensures ∙ ap (λ (k : ℕ). levelsFrom (now (a .targets)) (a .n) (record { family = Release; node = a .i; a = a .x .a; b = a .x .b; every = false; base = k }) (a .down) (a .n) (memory (now (a .rows)) (now (a .words))) .done) (sym e) ∙ sym (ap (λ (o : Operator). nodeStep (now (a .table)) (now (a .targets)) bases (a .n) (a .down) (a .i) o (memory (now (a .rows)) (now (a .words)))) (of-kind (a .x) 9 (c .before .before .before .before .before .before .before .match .keys9)))
+    let start = c .before .before .before .before .before .before .before .before .before .before .before .before in
+    let a = start .args in
+    λ bases e. c .before .before .before .before .release-step2 .ensures ∙ ap (released start false) (sym e)
+    ∙ sym (ap (stepOf start bases) (of-kind (a .x) 9 (c .before .before .before .before .before .before .before .match .keys9)))
 
 same-length-12 : tie.Need-same-length-12
 same-length-12 c = search needs
@@ -210,8 +219,10 @@ returns-10 : tie.Need-returns-10
 unfolding nodeStep
 returns-10 c =
     let r = c .before .before .before .before .before .match .rest in
-    let a = c .before .before .before .before .before .before .before .before .before .before .args in
-    λ bases e. added (now (a .rows)) (nodePlace (a .i)) (c .before .before .before .constant-row3 .ensures ∙ ap (constantRow (a .n)) (sym (no-states (a .n)))) (c .before .before .add3 .ensures) (now (a .words)) ∙ sym (ap (λ (o : Operator). nodeStep (now (a .table)) (now (a .targets)) bases (a .n) (a .down) (a .i) o (memory (now (a .rows)) (now (a .words)))) (no-kind (a .x) (r .0 .0 .0 .0 .0 .0 .0 .0 .1) (r .0 .0 .0 .0 .0 .0 .0 .1) (r .0 .0 .0 .0 .0 .0 .1) (r .0 .0 .0 .0 .0 .1) (r .0 .0 .0 .0 .1) (r .0 .0 .0 .1) (r .0 .0 .1) (r .0 .1) (r .1)))
+    let start = c .before .before .before .before .before .before .before .before .before .before in
+    let a = start .args in
+    λ bases e. added (now (a .rows)) (nodePlace (a .i)) (c .before .before .before .constant-row3 .ensures ∙ ap (constantRow (a .n)) (sym (no-states (a .n)))) (c .before .before .add3 .ensures) (now (a .words))
+    ∙ sym (ap (stepOf start bases) (no-kind (a .x) (r .0 .0 .0 .0 .0 .0 .0 .0 .1) (r .0 .0 .0 .0 .0 .0 .0 .1) (r .0 .0 .0 .0 .0 .0 .1) (r .0 .0 .0 .0 .0 .1) (r .0 .0 .0 .0 .1) (r .0 .0 .0 .1) (r .0 .0 .1) (r .0 .1) (r .1)))
 
 pub node-step-spec : {M : Type 1} → statement M
 node-step-spec =
@@ -233,8 +244,8 @@ node-step-spec =
     pair-step-requires-2
     next-step-requires
     next-step-requires-2
-    levels-step-requires
-    levels-step-requires-2
+    release-step-requires
+    release-step-requires-2
     mul-add-3
     add-add-3
     constant-row-requires-3

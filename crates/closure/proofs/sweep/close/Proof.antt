@@ -51,6 +51,15 @@ loop-holds c =
 sweep-once-requires : tie.Need-sweep-once-requires Inv-loop μ-loop
 sweep-once-requires c κs = (c .before .before .before .before .before .before .before .before .pre .0, c .before .before .loop .inv .0 .sized)
 
+-- what the sweep did
+went : (c : tie.After-sweep-once Inv-loop μ-loop)
+    → let l = c .before .before .before .loop in let s = c .sweep-once in let T = tableOf (now (c .before .before .before .before .before .before .before .before .before .args .table)) in
+    Advance T (Rest T) (memory (l .rows) (l .words)) (memory (s .last .1 .1 .1 .1 .0) (s .last .1 .1 .1 .1 .1 .0)) (s .result .report)
+went c =
+    let l = c .before .before .before .loop in
+    let s = c .sweep-once in
+    advanced (c .before .before .before .before .before .before .before .before .before .pre .0) (l .down) (l .resting) (l .rows) (l .words) (l .inv .0 .sized) (l .inv .1) _ _ (s .result) (s .ensures .0)
+
 same-length : tie.Need-same-length Inv-loop μ-loop
 same-length c = c .before .before .before .before .before .sweep-once .kept .1 .1 .1 .1 .0 ∙ c .before .before .before .before .before .before .before .before .loop .inv .0 .sized .rows-size ∙ sym (c .before .before .before .before .before .before .before .before .before .before .before .before .before .before .pre .1 .rows-size)
 
@@ -59,13 +68,8 @@ same-length-2 c = c .before .before .before .before .before .sweep-once .kept .1
 
 returns : tie.Need-returns Inv-loop μ-loop
 returns c =
-    let a = c .before .before .before .before .before .before .before .before .before .before .before .before .before .before .args in
-    let p = c .before .before .before .before .before .before .before .before .before .before .before .before .before .before .pre in
-    let l = c .before .before .before .before .before .before .before .before .loop in
-    let s = c .before .before .before .before .before .sweep-once in
-    let T = tableOf (now (a .table)) in
-    let went = advanced p.0 (l .down) (l .resting) (l .rows) (l .words) (l .inv .0 .sized) (l .inv .1) _ _ (s .result) (s .ensures .0) in
-    closed-failing T (l .inv .0) went (c .if1 .taken)
+    let T = tableOf (now (c .before .before .before .before .before .before .before .before .before .before .before .before .before .before .args .table)) in
+    closed-failing T (c .before .before .before .before .before .before .before .before .loop .inv .0) (went (c .before .before .before .before .before)) (c .if1 .taken)
 
 same-length-3 : tie.Need-same-length-3 Inv-loop μ-loop
 same-length-3 c = c .before .before .before .before .before .before .before .sweep-once .kept .1 .1 .1 .1 .0 ∙ c .before .before .before .before .before .before .before .before .before .before .loop .inv .0 .sized .rows-size ∙ sym (c .before .before .before .before .before .before .before .before .before .before .before .before .before .before .before .before .pre .1 .rows-size)
@@ -75,38 +79,30 @@ same-length-4 c = c .before .before .before .before .before .before .before .swe
 
 returns-2 : tie.Need-returns-2 Inv-loop μ-loop
 returns-2 c =
-    let a = c .before .before .before .before .before .before .before .before .before .before .before .before .before .before .before .before .args in
-    let p = c .before .before .before .before .before .before .before .before .before .before .before .before .before .before .before .before .pre in
-    let l = c .before .before .before .before .before .before .before .before .before .before .loop in
-    let s = c .before .before .before .before .before .before .before .sweep-once in
-    let T = tableOf (now (a .table)) in
-    let went = advanced p.0 (l .down) (l .resting) (l .rows) (l .words) (l .inv .0 .sized) (l .inv .1) _ _ (s .result) (s .ensures .0) in
-    closed-resting T (wellformed (p .0)) (l .inv .0) went (c .before .before .if1 .left) (not-true _ (c .if2 .taken))
+    let start = c .before .before .before .before .before .before .before .before .before .before .before .before .before .before .before .before in
+    closed-resting (tableOf (now (start .args .table))) (wellformed (start .pre .0)) (c .before .before .before .before .before .before .before .before .before .before .loop .inv .0) (went (c .before .before .before .before .before .before .before)) (c .before .before .if1 .left) (not-true _ (c .if2 .taken))
 
 loop-less : tie.Need-loop-less Inv-loop μ-loop
 loop-less c =
     let a = c .before .before .before .before .before .before .before .before .before .before .before .before .before .before .before .before .args in
-    let p = c .before .before .before .before .before .before .before .before .before .before .before .before .before .before .before .before .pre in
     let l = c .before .before .before .before .before .before .before .before .before .before .loop in
     let s = c .before .before .before .before .before .before .before .sweep-once in
-    let T = tableOf (now (a .table)) in
-    let went = advanced p.0 (l .down) (l .resting) (l .rows) (l .words) (l .inv .0 .sized) (l .inv .1) _ _ (s .result) (s .ensures .0) in
-    let less : total (memory (l .rows) (l .words)) < total (memory (s .last .1 .1 .1 .1 .0) (s .last .1 .1 .1 .1 .1 .0)) = went .more (not-false _ (c .if2 .left)) in
-    let most = total-bound {T = T} (memory (s .last .1 .1 .1 .1 .0) (s .last .1 .1 .1 .1 .1 .0)) (went .sized) in
+    let did = went (c .before .before .before .before .before .before .before) in
+    let less : total (memory (l .rows) (l .words)) < total (memory (s .last .1 .1 .1 .1 .0) (s .last .1 .1 .1 .1 .1 .0)) = did .more (not-false _ (c .if2 .left)) in
+    let most = total-bound {T = tableOf (now (a .table))} (memory (s .last .1 .1 .1 .1 .0) (s .last .1 .1 .1 .1 .1 .0)) (did .sized) in
     let size : length (s .last .1 .1 .1 .1 .0) + length (s .last .1 .1 .1 .1 .1 .0) ≡ length (now (a .rows)) + length (now (a .words)) =
-    omega (arith, went .sized .rows-size, p .1 .rows-size, s .kept .1 .1 .1 .1 .1 .0, l .inv .0 .same-words-length) in
+    omega (arith, did .sized .rows-size, c .before .before .before .before .before .before .before .before .before .before .before .before .before .before .before .before .pre .1 .rows-size, s .kept .1 .1 .1 .1 .1 .0, l .inv .0 .same-words-length) in
     let fixed = ap (λ (k : ℕ). k * 2 ^ 32) size in
     omega (arith, less, most, fixed)
 
 loop-again : tie.Need-loop-again Inv-loop μ-loop
 loop-again c =
-    let a = c .before .before .before .before .before .before .before .before .before .before .before .before .before .before .before .before .args in
-    let p = c .before .before .before .before .before .before .before .before .before .before .before .before .before .before .before .before .pre in
+    let start = c .before .before .before .before .before .before .before .before .before .before .before .before .before .before .before .before in
     let l = c .before .before .before .before .before .before .before .before .before .before .loop in
-    let s = c .before .before .before .before .before .before .before .sweep-once in
-    let T = tableOf (now (a .table)) in
-    let went = advanced p.0 (l .down) (l .resting) (l .rows) (l .words) (l .inv .0 .sized) (l .inv .1) _ _ (s .result) (s .ensures .0) in
-    (reached-more T (l .inv .0) went, still-resting p.0 (l .down) (l .resting) (l .rows) (l .words) (l .inv .0 .sized) (l .inv .1) _ _ (s .result) (s .ensures .0) (s .ensures .1))
+    let s = c .before .before .before .before .before .before .before .sweep-once in (
+      reached-more (tableOf (now (start .args .table))) (l .inv .0) (went (c .before .before .before .before .before .before .before)),
+      still-resting (start .pre .0) (l .down) (l .resting) (l .rows) (l .words) (l .inv .0 .sized) (l .inv .1) _ _ (s .result) (s .ensures .0) (s .ensures .1),
+    )
 
 pub close-spec : {M : Type 1} → statement M
 close-spec =

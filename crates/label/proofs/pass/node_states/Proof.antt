@@ -1,12 +1,18 @@
 -- `node_states` meets its contract, kind by kind.
-use mathlib.Core.Path.{_≡_, sym, ap, _∙_}
+use Prim.Native.Nat.{ℕ}
+use mathlib.Core.Path.{sym, ap, _∙_}
 use lib.Bits.{bitAnd}
 use denote.Ref.{now}
+use Rattle.ctl.specs.Rule.{Operator}
 use Rattle.ctl.proofs.OfKind.{of-kind, no-kind}
 use Rattle.label.specs.Words.{nodeWord}
 use borrow.Author.Needs.{needs}
 use Rattle.label.proofs.pass.node_states.Statement.{statement}
 use Rattle.label.proofs.pass.node_states.Tie as tie
+
+-- the set of a node with an operator
+abbrev wordOf : tie.Start → Operator → ℕ
+wordOf s = nodeWord (now (s .args .rows)) (s .args .kept) (s .args .n) (now (s .args .states)) (now (s .args .words))
 
 labelled-states-requires : tie.Need-labelled-states-requires
 labelled-states-requires c κs = search needs
@@ -92,63 +98,63 @@ release-states-requires-2 c κs = search needs
 returns : tie.Need-returns
 unfolding nodeWord
 returns c =
-    let a = c .before .before .args in
-    sym (ap (nodeWord (now (a .rows)) (a .kept) (a .n) (now (a .states)) (now (a .words))) (of-kind (a .x) 1 (c .match .keys1)))
+    let start = c .before .before in
+    sym (ap (wordOf start) (of-kind (start .args .x) 1 (c .match .keys1)))
 
 returns-2 : tie.Need-returns-2
 unfolding nodeWord
 returns-2 c =
-    let a = c .before .before .before .args in
-    ap (bitAnd (a .kept)) (c .labelled-states .ensures) ∙ sym (ap (nodeWord (now (a .rows)) (a .kept) (a .n) (now (a .states)) (now (a .words))) (of-kind (a .x) 2 (c .before .match .keys2)))
+    let start = c .before .before .before in
+    ap (bitAnd (start .args .kept)) (c .labelled-states .ensures) ∙ sym (ap (wordOf start) (of-kind (start .args .x) 2 (c .before .match .keys2)))
 
 returns-3 : tie.Need-returns-3
 unfolding nodeWord
 returns-3 c =
-    let a = c .before .before .before .args in
-    sym (ap (nodeWord (now (a .rows)) (a .kept) (a .n) (now (a .states)) (now (a .words))) (of-kind (a .x) 3 (c .before .match .keys3)))
+    let start = c .before .before .before in
+    sym (ap (wordOf start) (of-kind (start .args .x) 3 (c .before .match .keys3)))
 
 returns-4 : tie.Need-returns-4
 unfolding nodeWord
 returns-4 c =
-    let a = c .before .before .before .before .args in
-    sym (ap (nodeWord (now (a .rows)) (a .kept) (a .n) (now (a .states)) (now (a .words))) (of-kind (a .x) 4 (c .before .before .match .keys4)))
+    let start = c .before .before .before .before in
+    sym (ap (wordOf start) (of-kind (start .args .x) 4 (c .before .before .match .keys4)))
 
 returns-5 : tie.Need-returns-5
 unfolding nodeWord
 returns-5 c =
-    let a = c .before .before .before .before .args in
-    sym (ap (nodeWord (now (a .rows)) (a .kept) (a .n) (now (a .states)) (now (a .words))) (of-kind (a .x) 5 (c .before .before .match .keys5)))
+    let start = c .before .before .before .before in
+    sym (ap (wordOf start) (of-kind (start .args .x) 5 (c .before .before .match .keys5)))
 
 returns-6 : tie.Need-returns-6
 unfolding nodeWord
 returns-6 c =
-    let a = c .before .before .before .before .args in
-    c .next-states .ensures ∙ sym (ap (nodeWord (now (a .rows)) (a .kept) (a .n) (now (a .states)) (now (a .words))) (of-kind (a .x) 6 (c .before .before .match .keys6)))
+    let start = c .before .before .before .before in
+    c .next-states .ensures ∙ sym (ap (wordOf start) (of-kind (start .args .x) 6 (c .before .before .match .keys6)))
 
 returns-7 : tie.Need-returns-7
 unfolding nodeWord
 returns-7 c =
-    let a = c .before .before .before .before .args in
-    c .next-states2 .ensures ∙ sym (ap (nodeWord (now (a .rows)) (a .kept) (a .n) (now (a .states)) (now (a .words))) (of-kind (a .x) 7 (c .before .before .match .keys7)))
+    let start = c .before .before .before .before in
+    c .next-states2 .ensures ∙ sym (ap (wordOf start) (of-kind (start .args .x) 7 (c .before .before .match .keys7)))
 
 returns-8 : tie.Need-returns-8
 unfolding nodeWord
 returns-8 c =
-    let a = c .before .before .before .before .before .args in
-    c .release-states .ensures ∙ sym (ap (nodeWord (now (a .rows)) (a .kept) (a .n) (now (a .states)) (now (a .words))) (of-kind (a .x) 8 (c .before .before .before .match .keys8)))
+    let start = c .before .before .before .before .before in
+    c .release-states .ensures ∙ sym (ap (wordOf start) (of-kind (start .args .x) 8 (c .before .before .before .match .keys8)))
 
 returns-9 : tie.Need-returns-9
 unfolding nodeWord
 returns-9 c =
-    let a = c .before .before .before .before .before .args in
-    c .release-states2 .ensures ∙ sym (ap (nodeWord (now (a .rows)) (a .kept) (a .n) (now (a .states)) (now (a .words))) (of-kind (a .x) 9 (c .before .before .before .match .keys9)))
+    let start = c .before .before .before .before .before in
+    c .release-states2 .ensures ∙ sym (ap (wordOf start) (of-kind (start .args .x) 9 (c .before .before .before .match .keys9)))
 
 returns-10 : tie.Need-returns-10
 unfolding nodeWord
 returns-10 c =
-    let a = c .before .before .args in
+    let start = c .before .before in
     let r = c .match .rest in
-    sym (ap (nodeWord (now (a .rows)) (a .kept) (a .n) (now (a .states)) (now (a .words))) (no-kind (a .x) (r .0 .0 .0 .0 .0 .0 .0 .0 .1) (r .0 .0 .0 .0 .0 .0 .0 .1) (r .0 .0 .0 .0 .0 .0 .1) (r .0 .0 .0 .0 .0 .1) (r .0 .0 .0 .0 .1) (r .0 .0 .0 .1) (r .0 .0 .1) (r .0 .1) (r .1)))
+    sym (ap (wordOf start) (no-kind (start .args .x) (r .0 .0 .0 .0 .0 .0 .0 .0 .1) (r .0 .0 .0 .0 .0 .0 .0 .1) (r .0 .0 .0 .0 .0 .0 .1) (r .0 .0 .0 .0 .0 .1) (r .0 .0 .0 .0 .1) (r .0 .0 .0 .1) (r .0 .0 .1) (r .0 .1) (r .1)))
 
 pub node-states-spec : {M : Type 1} → statement M
 node-states-spec =

@@ -10,7 +10,7 @@ use lib.ListN.{length, getD, take}
 use lib.Seq.{take-all}
 use denote.Ref.{now}
 use Rattle.table.specs.declared.record.Step.{Step}
-use Rattle.table.specs.Table.{tableOf, stepAt}
+use Rattle.table.specs.Table.{tableOf, stepAt, zeroStep}
 use Rattle.table.specs.Rows.{Rows}
 use Rattle.table.proofs.Accepted.{read-step}
 use Rattle.table.proofs.Rows.{rows-none}
@@ -84,7 +84,7 @@ loop-again c =
     let before = keptSteps (take j xs) (take j l) in
     let inside : j < length l = c .before .before .loop-test .taken in
     let more : keptSteps (take (j + 1) xs) (take (j + 1) l) ≡ before ++ ifKept (getD l j 0) (stepAt (tableOf (now (a .table))) j) =
-    ap (λ (k : ℕ). keptSteps (take k xs) (take k l)) (add-one j) ∙ kept-more xs l j (record { from = 0; to = 0 }) (c .before .before .before .before .before .before .before .pre .1) inside in
+    ap (λ (k : ℕ). keptSteps (take k xs) (take k l)) (add-one j) ∙ kept-more xs l j zeroStep (c .before .before .before .before .before .before .before .pre .1) inside in
     let row-of : Rows (c .if1 .rows) (before ++ ifKept (getD l j 0) (stepAt (tableOf (now (a .table))) j)) =
     ⊎-elim
     (λ w. with-kept rows (c .if1 .rows) before (c .before .before .before .loop .inv .1) (now (a .table)) j (getD l j 0) (w .2 .result) (w .1 .result)

@@ -1,13 +1,13 @@
 -- `go_back` meets its contract: after the states below s, the rows, the row of the ends and the report are those of `backRows`, `backRow` and
 -- `backReport` at s.
-use Prim.Native.Nat.{ℕ, suc, _+_, _*_, _-_, _≤_, zero-le}
+use Prim.Native.Nat.{ℕ, _+_, _*_, _-_, _≤_, zero-le}
 use mathlib.Core.Path.{_≡_, refl, sym, ap, _∙_}
 use mathlib.Core.Bool.{Bool, true, false}
 use mathlib.Core.List.{List}
 use native.Mathlib.Numerals.{add-one}
 use native.Mathlib.Omega.{arith}
 use borrow.Author.Needs.{needs}
-use lib.ListN.{length, getD, length-set}
+use lib.ListN.{length, getD}
 use denote.Ref.{now}
 use Rattle.rows.specs.declared.row.Row.{Row}
 use Rattle.rows.specs.declared.row.Report.{Report}

@@ -1,14 +1,12 @@
 -- `push` meets its contract: the last step left where there is one, and what a true N adds.
 use Prim.Native.Nat.{ℕ}
-use mathlib.Core.Path.{_≡_, refl, sym, ap, _∙_}
+use mathlib.Core.Path.{_≡_, sym, _∙_}
 use mathlib.Core.Bool.{Bool, true, false, cond, _&&_}
-use mathlib.Core.Logic.{_⊎_, ⊎-elim}
+use mathlib.Core.Logic.{⊎-elim}
 use borrow.Author.Needs.{needs}
 use lib.Bits.{bitAnd}
-use Rattle.rows.specs.declared.row.Row.{Row}
 use Rattle.rows.specs.Row.{only}
 use Rattle.rows.specs.Rules.{unmet, lastLeft, row}
-use Rattle.rows.specs.Back.{pushed}
 use Rattle.rows.proofs.next.push.Statement.{statement}
 use Rattle.rows.proofs.next.push.Tie as tie
 

@@ -1,5 +1,5 @@
 -- `search_table` meets its contract.
-use Prim.Native.Nat.{_≤_, zero-le}
+use Prim.Native.Nat.{zero-le}
 use mathlib.Core.Path.{_≡_, sym, subst, _∙_}
 use mathlib.Core.List.{[]}
 use native.Mathlib.Omega.{arith}
@@ -9,13 +9,14 @@ use lib.Seq.{length-take-le}
 use denote.Ref.{now}
 use Rattle.table.specs.Table.{tableOf}
 use Rattle.table.proofs.Accepted.{accepted}
+use Rattle.table.proofs.Buffer.{front-written}
 use Rattle.closure.specs.Memory.{Sized}
 use Rattle.closure.specs.Sweep.{memory}
 use Rattle.closure.specs.Closes.{Between}
 use Rattle.search.specs.Stands.{Comes}
 use Rattle.search.proofs.Zeroed.{none-between, none-sized}
 use Rattle.search.proofs.ClosureRight.{closure-is-right}
-use Rattle.search.proofs.FromStart.{start-ended, start-stands, start-onward, whole-length, whole-beyond}
+use Rattle.search.proofs.FromStart.{start-ended, start-stands, start-onward}
 use Rattle.search.proofs.start.search_table.Statement.{statement}
 use Rattle.search.proofs.start.search_table.Tie as tie
 
@@ -99,13 +100,13 @@ returns c =
     let g = start-ended (tableOf (now (s .args .table))) (s .args .cap) _ _ _ _ (comes reach) (ended .outcome .given .0 .0) (ended .outcome .given .1) in
     let words = now (s .args .words) in
     let part = reach .reach .last .1 .1 .1 .1 .1 .1 .1 .0 in
-    let fits : s .args .levels ≤ length words = omega (arith, s .pre .1 .0, s .pre .1 .1 .0) in (
+    let whole = front-written part words (s .args .levels) (words-length reach) (omega (arith, s .pre .1 .0, s .pre .1 .1 .0)) in (
       g .answer,
       (
         g .list-after,
         (
-          whole-length part words (s .args .levels) (words-length reach) fits,
-          λ k h. whole-beyond part words (s .args .levels) (words-length reach) fits k (omega (arith, s .pre .1 .0)),
+          whole .size,
+          λ k h. whole .rest k (omega (arith, words-length reach, s .pre .1 .0)),
         ),
       ),
     )
@@ -126,13 +127,13 @@ returns-2 c =
     let words = now (s .args .words) in
     let part = kept .kept .last .1 .1 .1 .1 .1 .1 .1 .1 .0 in
     let size = kept .kept .kept .1 .1 .1 .1 .1 .1 .1 .1 .0 ∙ words-length reach in
-    let fits : s .args .levels ≤ length words = omega (arith, s .pre .1 .0, s .pre .1 .1 .0) in (
+    let whole = front-written part words (s .args .levels) size (omega (arith, s .pre .1 .0, s .pre .1 .1 .0)) in (
       g .answer,
       (
         g .list-after,
         (
-          whole-length part words (s .args .levels) size fits,
-          λ k h. whole-beyond part words (s .args .levels) size fits k (omega (arith, s .pre .1 .0)),
+          whole .size,
+          λ k h. whole .rest k (omega (arith, size, s .pre .1 .0)),
         ),
       ),
     )
