@@ -17,7 +17,7 @@ pub ordered-below : (down : Bool) (n k : ℕ) → k < n → ordered down n k < n
 ordered-below true n k h = omega arith
 ordered-below false n k h = h
 
--- and its turn is the k-th from the other end, too
+-- and to go the same way twice leads back, so that each of the n has its turn
 pub ordered-twice : (down : Bool) (n k : ℕ) → k < n → ordered down n (ordered down n k) ≡ k
 ordered-twice true n k h = omega arith
 ordered-twice false n k h = refl

@@ -1,4 +1,7 @@
 // K of each state with its steps, and the demands of the initial states.
+use crate::layout::KEPT_PLACE;
+use crate::layout::add_node;
+use crate::layout::node_row;
 use rows::Report;
 use rows::Row;
 use rows::add;
@@ -19,8 +22,8 @@ fn kept_step(targets: &[u32], rows: &mut [u32], s: usize) -> Report
 {
     let target = targets[s];
     let x = row_at(rows, 2 * s);
-    let k = row_at(rows, 128);
-    let first = add(rows, 128, kept_row(s, target, x));
+    let k = row_at(rows, KEPT_PLACE);
+    let first = add(rows, KEPT_PLACE, kept_row(s, target, x));
     both(first, add(rows, 2 * s, kept_steps(s, target, x, k)))
 }
 
@@ -45,8 +48,8 @@ pub fn start_step(rows: &mut [u32], initial: u32, root: usize) -> Report
     requires { ⌜ (root < 32) × (length (now rows) ≡ 130) ⌝ }
     ensures { λ q. ⌜ ((w : List ℕ) → stepped (now (rows .exit)) w q ≡ startStep initial root (memory (now (rows .entry)) w)) ⌝ }
 {
-    let k = row_at(rows, 128);
-    let x = row_at(rows, 64 + 2 * root);
+    let k = row_at(rows, KEPT_PLACE);
+    let x = node_row(rows, root);
     let left = initial & !k.no;
     let last = if is_only(left) { left } else { 0 };
     let start = Report {
@@ -57,7 +60,7 @@ pub fn start_step(rows: &mut [u32], initial: u32, root: usize) -> Report
         start,
         add(
             rows,
-            128,
+            KEPT_PLACE,
             Row {
                 yes: last,
                 no: x.no & initial,
@@ -66,9 +69,9 @@ pub fn start_step(rows: &mut [u32], initial: u32, root: usize) -> Report
     );
     both(
         first,
-        add(
+        add_node(
             rows,
-            64 + 2 * root,
+            root,
             Row {
                 yes: k.yes & initial,
                 no: 0,

@@ -1,4 +1,6 @@
 // A level of a fixed-point node: level 0 is the row of b and level n that of the node, the others lie in the lent words from `base` on.
+use crate::layout::add_node;
+use crate::layout::node_row;
 use rows::Family;
 use rows::Joined;
 use rows::Report;
@@ -33,10 +35,10 @@ pub fn level_row(rows: &[u32], words: &[u32], n: usize, x: Fixpoint, m: usize) -
     ensures { λ r. ⌜ r ≡ levelAt n x m (memory (now (rows .entry)) (now (words .entry))) ⌝ }
 {
     if m == 0 {
-        return row_at(rows, 64 + 2 * x.b);
+        return node_row(rows, x.b);
     }
     if m == n {
-        return row_at(rows, 64 + 2 * x.node);
+        return node_row(rows, x.node);
     }
     row_at(words, x.base + 2 * (m - 1))
 }
@@ -47,10 +49,10 @@ fn add_level(rows: &mut [u32], words: &mut [u32], n: usize, x: Fixpoint, m: usiz
     ensures { λ q. ⌜ stepped (now (rows .exit)) (now (words .exit)) q ≡ addLevel n x m r (memory (now (rows .entry)) (now (words .entry))) ⌝ }
 {
     if m == 0 {
-        return add(rows, 64 + 2 * x.b, r);
+        return add_node(rows, x.b, r);
     }
     if m == n {
-        return add(rows, 64 + 2 * x.node, r);
+        return add_node(rows, x.node, r);
     }
     add(words, x.base + 2 * (m - 1), r)
 }
@@ -72,8 +74,8 @@ fn joined_at(
     let every = x.every;
     let up = turn(every, ahead(targets, rows, n, turn(every, below)));
     let level = level_row(rows, words, n, x, m + 1);
-    let a = row_at(rows, 64 + 2 * x.a);
-    let b = row_at(rows, 64 + 2 * x.b);
+    let a = node_row(rows, x.a);
+    let b = node_row(rows, x.b);
     let family = x.family;
     join(family, level, a, b, up)
 }
@@ -96,8 +98,8 @@ fn add_joined(
         fails: j.fails,
     };
     let first = both(start, add_level(rows, words, n, x, m + 1, j.level));
-    let second = both(first, add(rows, 64 + 2 * x.a, j.a));
-    both(second, add(rows, 64 + 2 * x.b, j.b))
+    let second = both(first, add_node(rows, x.a, j.a));
+    both(second, add_node(rows, x.b, j.b))
 }
 
 // Back from N to the steps and the level below, with what is known of N beside what its ends say.

@@ -1,9 +1,10 @@
 // The rules of a node, by its kind.
+use crate::layout::add_node;
+use crate::layout::node_row;
 use crate::level::Fixpoint;
 use crate::levels::levels_step;
 use rows::Family;
 use rows::Report;
-use rows::add;
 use rows::ahead;
 use rows::and_input;
 use rows::and_output;
@@ -12,7 +13,6 @@ use rows::constant_row;
 use rows::go_back;
 use rows::is_none;
 use rows::new_of;
-use rows::row_at;
 use rows::turn;
 use table::Node;
 ghost use mathlib.Core.Path.{_≡_};
@@ -29,10 +29,10 @@ fn same_step(rows: &mut [u32], i: usize, same: bool, a: usize) -> Report
     requires { ⌜ (i < 32) × ((a < 32) × (length (now rows) ≡ 130)) ⌝ }
     ensures { λ q. ⌜ ((w : List ℕ) → stepped (now (rows .exit)) w q ≡ sameStep i same a (memory (now (rows .entry)) w)) ⌝ }
 {
-    let x = row_at(rows, 64 + 2 * a);
-    let first = add(rows, 64 + 2 * i, turn(same, x));
-    let g = row_at(rows, 64 + 2 * i);
-    both(first, add(rows, 64 + 2 * a, turn(same, g)))
+    let x = node_row(rows, a);
+    let first = add_node(rows, i, turn(same, x));
+    let g = node_row(rows, i);
+    both(first, add_node(rows, a, turn(same, g)))
 }
 
 // AND of two inputs; OR is its dual.
@@ -40,12 +40,12 @@ fn both_step(rows: &mut [u32], i: usize, same: bool, a: usize, b: usize) -> Repo
     requires { ⌜ (i < 32) × ((a < 32) × ((b < 32) × (length (now rows) ≡ 130))) ⌝ }
     ensures { λ q. ⌜ ((w : List ℕ) → stepped (now (rows .exit)) w q ≡ bothStep i same a b (memory (now (rows .entry)) w)) ⌝ }
 {
-    let x = turn(same, row_at(rows, 64 + 2 * a));
-    let y = turn(same, row_at(rows, 64 + 2 * b));
-    let g = and_output(turn(same, row_at(rows, 64 + 2 * i)), x, y);
-    let first = add(rows, 64 + 2 * i, turn(same, g));
-    let second = both(first, add(rows, 64 + 2 * a, turn(same, and_input(g, y))));
-    both(second, add(rows, 64 + 2 * b, turn(same, and_input(g, x))))
+    let x = turn(same, node_row(rows, a));
+    let y = turn(same, node_row(rows, b));
+    let g = and_output(turn(same, node_row(rows, i)), x, y);
+    let first = add_node(rows, i, turn(same, g));
+    let second = both(first, add_node(rows, a, turn(same, and_input(g, y))));
+    both(second, add_node(rows, b, turn(same, and_input(g, x))))
 }
 
 // AND or OR of a and b, which may be one node: then the literal that stands twice counts once.
@@ -65,18 +65,15 @@ fn next_step(targets: &[u32], rows: &mut [u32], n: usize, i: usize, every: bool,
     requires { ⌜ (n ≤ 32) × (length (now targets) ≡ 32) ⌝ }
     ensures { λ q. ⌜ ((w : List ℕ) → stepped (now (rows .exit)) w q ≡ nextStep (now (targets .entry)) n i every a (memory (now (rows .entry)) w)) ⌝ }
 {
-    let end = turn(every, row_at(rows, 64 + 2 * a));
+    let end = turn(every, node_row(rows, a));
     let up = turn(every, ahead(targets, rows, n, end));
-    let first = add(rows, 64 + 2 * i, up);
-    let more = new_of(row_at(rows, 64 + 2 * i), up);
+    let first = add_node(rows, i, up);
+    let more = new_of(node_row(rows, i), up);
     if is_none(more) {
         return first;
     }
     let k = go_back(targets, rows, n, turn(every, more), end);
-    both(
-        first,
-        both(k.report, add(rows, 64 + 2 * a, turn(every, k.end))),
-    )
+    both(first, both(k.report, add_node(rows, a, turn(every, k.end))))
 }
 
 // A[a V b]; E[a V b] is its dual.
@@ -128,10 +125,10 @@ pub fn node_step(
     let a = x.a;
     let b = x.b;
     match kind {
-        1 => add(rows, 64 + 2 * i, constant_row(n, sets::below(n))),
+        1 => add_node(rows, i, constant_row(n, sets::below(n))),
         2 => {
             let set = table::labelled_states(table::states_part(table), n, a);
-            add(rows, 64 + 2 * i, constant_row(n, set))
+            add_node(rows, i, constant_row(n, set))
         }
         3 => same_step(rows, i, false, a),
         4 => pair_step(rows, i, true, a, b),
@@ -140,6 +137,6 @@ pub fn node_step(
         7 => next_step(targets, rows, n, i, false, a),
         8 => release_step(targets, rows, words, n, base, i, true, a, b, down),
         9 => release_step(targets, rows, words, n, base, i, false, a, b, down),
-        _ => add(rows, 64 + 2 * i, constant_row(n, 0)),
+        _ => add_node(rows, i, constant_row(n, 0)),
     }
 }

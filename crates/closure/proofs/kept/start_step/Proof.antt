@@ -19,14 +19,8 @@ use Rattle.closure.proofs.kept.start_step.Tie as tie
 row-at-requires : tie.Need-row-at-requires
 row-at-requires c κs = search needs
 
-mul-row-at : tie.Need-mul-row-at
-mul-row-at c = search needs
-
-add-row-at : tie.Need-add-row-at
-add-row-at c = search needs
-
-row-at-requires-2 : tie.Need-row-at-requires-2
-row-at-requires-2 c κs = search needs
+node-row-requires : tie.Need-node-row-requires
+node-row-requires c κs = search needs
 
 is-only-requires : tie.Need-is-only-requires
 is-only-requires c κs = search needs
@@ -37,14 +31,8 @@ add-requires c κs = search needs
 both-requires : tie.Need-both-requires
 both-requires c κs = search needs
 
-mul-add : tie.Need-mul-add
-mul-add c = search needs
-
-add-add : tie.Need-add-add
-add-add c = search needs
-
-add-requires-2 : tie.Need-add-requires-2
-add-requires-2 c κs = search needs
+add-node-requires : tie.Need-add-node-requires
+add-node-requires c κs = search needs
 
 both-requires-2 : tie.Need-both-requires-2
 both-requires-2 c κs = search needs
@@ -73,12 +61,12 @@ returns c =
     (ap (λ (r : Row). failing (eqb (openStarts (a .initial) r) 0) (memory rows w)) kept)
     (λ i. record {
       yes = (last ∙ ap (λ (r : Row). startKept (a .initial) r r .yes) kept) i;
-      no = bitAnd (start .row-at2 .ensures i .no) (a .initial);
+      no = bitAnd (start .node-row .ensures i .no) (a .initial);
     })
     (first .add .ensures)
     (second .before .before .before .both .ensures))
     (ap (startRoot (a .initial)) kept)
-    (second .add2 .ensures)
+    (second .add-node .ensures)
     (c .both2 .ensures)
 
 pub start-step-spec : {M : Type 1} → statement M
@@ -86,15 +74,11 @@ start-step-spec =
     tie.close
     (tie.spec
     row-at-requires
-    mul-row-at
-    add-row-at
-    row-at-requires-2
+    node-row-requires
     is-only-requires
     add-requires
     both-requires
-    mul-add
-    add-add
-    add-requires-2
+    add-node-requires
     both-requires-2
     same-length
     returns)

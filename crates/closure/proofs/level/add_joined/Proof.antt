@@ -2,7 +2,6 @@
 use Prim.Native.Nat.{ℕ, suc}
 use mathlib.Core.Path.{refl, ap, _∙_}
 use native.Mathlib.Numerals.{add-one}
-use native.Mathlib.Omega.{arith}
 use denote.Ref.{now}
 use Rattle.closure.specs.Memory.{nodePlace}
 use Rattle.closure.specs.Sweep.{memory, failing, addRow, addLevel}
@@ -20,26 +19,14 @@ add-level-requires c κs = search needs
 both-requires : tie.Need-both-requires
 both-requires c κs = search needs
 
-mul-add : tie.Need-mul-add
-mul-add c = search needs
-
-add-add : tie.Need-add-add
-add-add c = search needs
-
-add-requires : tie.Need-add-requires
-add-requires c κs = search needs
+add-node-requires : tie.Need-add-node-requires
+add-node-requires c κs = search needs
 
 both-requires-2 : tie.Need-both-requires-2
 both-requires-2 c κs = search needs
 
-mul-add-2 : tie.Need-mul-add-2
-mul-add-2 c = omega (arith, c .before .before .before .before .before .before .before .before .before .before .before .before .before .before .before .before .before .before .pre .0 .b-below)
-
-add-add-2 : tie.Need-add-add-2
-add-add-2 c = omega (arith, c .before .before .before .before .before .before .before .before .before .before .before .before .before .before .before .before .before .before .pre .0 .b-below)
-
-add-requires-2 : tie.Need-add-requires-2
-add-requires-2 c κs = omega (arith, c .before .before .before .before .before .before .before .before .before .before .before .before .before .before .before .before .before .before .pre .0 .b-below, c .before .before .before .before .before .before .before .before .before .before .before .before .before .before .before .before .before .before .pre .0 .rows-size, c .before .before .before .before .before .before .before .before .before .before .before .before .before .add-level .kept .0, c .before .before .before .before .before .add .kept .0)
+add-node-requires-2 : tie.Need-add-node-requires-2
+add-node-requires-2 c κs = search needs
 
 both-requires-3 : tie.Need-both-requires-3
 both-requires-3 c κs = search needs
@@ -52,17 +39,17 @@ same-length-2 c = search needs
 
 returns : tie.Need-returns
 returns c =
-    let a = c .before .before .before .before .before .before .before .before .before .before .before .before .before .before .before .before .before .before .before .before .before .before .args in
-    let l = c .before .before .before .before .before .before .before .before .before .before .before .before .before .before .before .before .before .add-level in
-    let d = c .before .before .before .before .before .before .before .before .before .add in
-    let e = c .before .before .before .add2 in
+    let a = c .before .before .before .before .before .before .before .before .before .before .before .before .before .before .before .before .before .before .before .before .args in
+    let l = c .before .before .before .before .before .before .before .before .before .before .before .before .before .before .before .add-level in
+    let d = c .before .before .before .before .before .before .before .before .add-node in
+    let e = c .before .before .before .add-node2 in
     after (addRow (nodePlace (a .x .b)) (a .j .b))
     (after (addRow (nodePlace (a .x .a)) (a .j .a))
     (after {S = failing (a .j .fails) (memory (now (a .rows)) (now (a .words)))} (addLevel (a .n) (a .x) (suc (a .m)) (a .j .level)) refl
     (l .ensures ∙ ap (λ (k : ℕ). addLevel (a .n) (a .x) k (a .j .level) (memory (now (a .rows)) (now (a .words)))) (add-one (a .m)))
-    (c .before .before .before .before .before .before .before .before .before .before .before .before .both .ensures))
+    (c .before .before .before .before .before .before .before .before .before .before .both .ensures))
     (added (l .last .0) (nodePlace (a .x .a)) refl (d .ensures) (l .last .1 .0))
-    (c .before .before .before .before .before .before .both2 .ensures))
+    (c .before .before .before .before .before .both2 .ensures))
     (added (d .last .0) (nodePlace (a .x .b)) refl (e .ensures) (l .last .1 .0))
     (c .both3 .ensures)
 
@@ -73,13 +60,9 @@ add-joined-spec =
     add-add-level
     add-level-requires
     both-requires
-    mul-add
-    add-add
-    add-requires
+    add-node-requires
     both-requires-2
-    mul-add-2
-    add-add-2
-    add-requires-2
+    add-node-requires-2
     both-requires-3
     same-length
     same-length-2

@@ -6,6 +6,32 @@ use borrow.Author.Needs.{needs}
 use Rattle.closure.proofs.level.add_level.Statement.{statement}
 use Rattle.closure.proofs.level.add_level.Tie as tie
 
+add-node-requires : tie.Need-add-node-requires
+add-node-requires c κs = search needs
+
+same-length : tie.Need-same-length
+same-length c = search needs
+
+returns : tie.Need-returns
+returns c =
+    let d = c .before .before .add-node in
+    simp (eq-eqb _ _ (c .before .before .before .before .if1 .taken)) (λ i. record { memory = memory (d .ensures .1 i) (now (c .before .before .before .before .before .before .before .args .words)); report = d .ensures .0 i })
+
+add-node-requires-2 : tie.Need-add-node-requires-2
+add-node-requires-2 c κs = search needs
+
+same-length-2 : tie.Need-same-length-2
+same-length-2 c = search needs
+
+returns-2 : tie.Need-returns-2
+returns-2 c =
+    let d = c .before .before .add-node2 in
+    simp (ne-eqb _ _ (c .before .before .before .before .before .if1 .left), eq-eqb _ _ (c .before .before .before .before .if2 .taken))
+    (λ i. record { memory = memory (d .ensures .1 i) (now (c .before .before .before .before .before .before .before .before .args .words)); report = d .ensures .0 i })
+
+sub-add : tie.Need-sub-add
+sub-add c = search needs
+
 mul-add : tie.Need-mul-add
 mul-add c = search needs
 
@@ -15,50 +41,12 @@ add-add c = search needs
 add-requires : tie.Need-add-requires
 add-requires c κs = search needs
 
-same-length : tie.Need-same-length
-same-length c = search needs
-
-returns : tie.Need-returns
-returns c =
-    let d = c .before .before .add in
-    simp (eq-eqb _ _ (c .before .before .before .before .before .if1 .taken)) (λ i. record { memory = memory (d .ensures .1 i) (now (c .before .before .before .before .before .before .before .before .args .words)); report = d .ensures .0 i })
-
-mul-add-2 : tie.Need-mul-add-2
-mul-add-2 c = search needs
-
-add-add-2 : tie.Need-add-add-2
-add-add-2 c = search needs
-
-add-requires-2 : tie.Need-add-requires-2
-add-requires-2 c κs = search needs
-
-same-length-2 : tie.Need-same-length-2
-same-length-2 c = search needs
-
-returns-2 : tie.Need-returns-2
-returns-2 c =
-    let d = c .before .before .add2 in
-    simp (ne-eqb _ _ (c .before .before .before .before .before .before .if1 .left), eq-eqb _ _ (c .before .before .before .before .before .if2 .taken))
-    (λ i. record { memory = memory (d .ensures .1 i) (now (c .before .before .before .before .before .before .before .before .before .args .words)); report = d .ensures .0 i })
-
-sub-add : tie.Need-sub-add
-sub-add c = search needs
-
-mul-add-3 : tie.Need-mul-add-3
-mul-add-3 c = search needs
-
-add-add-3 : tie.Need-add-add-3
-add-add-3 c = search needs
-
-add-requires-3 : tie.Need-add-requires-3
-add-requires-3 c κs = search needs
-
 same-length-3 : tie.Need-same-length-3
 same-length-3 c = search needs
 
 returns-3 : tie.Need-returns-3
 returns-3 c =
-    let d = c .before .before .add3 in
+    let d = c .before .before .add in
     simp (ne-eqb _ _ (c .before .before .before .before .before .before .if1 .left), ne-eqb _ _ (c .before .before .before .before .before .if2 .left))
     (λ i. record { memory = memory (now (c .before .before .before .before .before .before .before .before .before .args .rows)) (d .ensures .1 i); report = d .ensures .0 i })
 
@@ -66,19 +54,15 @@ pub add-level-spec : {M : Type 1} → statement M
 add-level-spec =
     tie.close
     (tie.spec
-    mul-add
-    add-add
-    add-requires
+    add-node-requires
     same-length
     returns
-    mul-add-2
-    add-add-2
-    add-requires-2
+    add-node-requires-2
     same-length-2
     returns-2
     sub-add
-    mul-add-3
-    add-add-3
-    add-requires-3
+    mul-add
+    add-add
+    add-requires
     same-length-3
     returns-3)

@@ -2,7 +2,6 @@
 use Prim.Native.Nat.{ℕ, suc}
 use mathlib.Core.Path.{_≡_, ap, _∙_}
 use native.Mathlib.Numerals.{add-one}
-use native.Mathlib.Omega.{arith}
 use denote.Ref.{now}
 use lib.ListN.{getD}
 use Rattle.rows.specs.Row.{turned}
@@ -28,37 +27,25 @@ add-level-row c = search needs
 level-row-requires : tie.Need-level-row-requires
 level-row-requires c κs = search needs
 
-mul-row-at : tie.Need-mul-row-at
-mul-row-at c = search needs
+node-row-requires : tie.Need-node-row-requires
+node-row-requires c κs = search needs
 
-add-row-at : tie.Need-add-row-at
-add-row-at c = search needs
-
-row-at-requires : tie.Need-row-at-requires
-row-at-requires c κs = search needs
-
-mul-row-at-2 : tie.Need-mul-row-at-2
-mul-row-at-2 c = omega (arith, c .before .before .before .before .before .before .before .before .before .before .pre .0 .b-below, c .before .before .before .before .before .before .before .before .before .before .pre .0 .rows-size)
-
-add-row-at-2 : tie.Need-add-row-at-2
-add-row-at-2 c = omega (arith, c .before .before .before .before .before .before .before .before .before .before .pre .0 .b-below, c .before .before .before .before .before .before .before .before .before .before .pre .0 .rows-size)
-
-row-at-requires-2 : tie.Need-row-at-requires-2
-row-at-requires-2 c κs = omega (arith, c .before .before .before .before .before .before .before .before .before .before .pre .0 .b-below, c .before .before .before .before .before .before .before .before .before .before .pre .0 .rows-size)
+node-row-requires-2 : tie.Need-node-row-requires-2
+node-row-requires-2 c κs = search needs
 
 join-requires : tie.Need-join-requires
 join-requires c κs = search needs
 
 returns : tie.Need-returns
 returns c =
-    let a = c .before .before .before .before .before .before .before .before .before .before .before .before .args in
+    let a = c .before .before .before .before .before .before .before .before .before .before .args in
     let M = memory (now (a .rows)) (now (a .words)) in
-    let t = c .before .before .before .before .before .before .before .before .turn in
-    let h = c .before .before .before .before .before .before .before .ahead in
-    let u = c .before .before .before .before .before .before .turn2 in
-    let l = c .before .before .before .before .before .level-row in
-    let p = c .before .before .before .row-at in
-    let q = c .before .row-at2 in
+    let t = c .before .before .before .before .before .before .turn in
+    let h = c .before .before .before .before .before .ahead in
+    let u = c .before .before .before .before .turn2 in
+    let l = c .before .before .before .level-row in
+    let p = c .before .before .node-row in
+    let q = c .before .node-row2 in
     let up : u .result ≡ aheadIn (now (a .targets)) (a .n) (a .x .every) (a .below) M =
     u .ensures ∙ ap (turned (a .x .every)) (h .ensures ∙ ap (aheadRow (λ s. getD (now (a .targets)) s 0) (λ s. rowAt (now (a .rows)) (stepPlace s)) (a .n)) (t .ensures)) in
     let here : l .result ≡ levelAt (a .n) (a .x) (suc (a .m)) M = l .ensures ∙ ap (λ (k : ℕ). levelAt (a .n) (a .x) k M) (add-one (a .m)) in
@@ -73,11 +60,7 @@ joined-at-spec =
     turn-requires-2
     add-level-row
     level-row-requires
-    mul-row-at
-    add-row-at
-    row-at-requires
-    mul-row-at-2
-    add-row-at-2
-    row-at-requires-2
+    node-row-requires
+    node-row-requires-2
     join-requires
     returns)

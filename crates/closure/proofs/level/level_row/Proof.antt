@@ -4,6 +4,21 @@ use borrow.Author.Needs.{needs}
 use Rattle.closure.proofs.level.level_row.Statement.{statement}
 use Rattle.closure.proofs.level.level_row.Tie as tie
 
+node-row-requires : tie.Need-node-row-requires
+node-row-requires c κs = search needs
+
+returns : tie.Need-returns
+returns c = simp (eq-eqb _ _ (c .before .if1 .taken)) (c .node-row .ensures)
+
+node-row-requires-2 : tie.Need-node-row-requires-2
+node-row-requires-2 c κs = search needs
+
+returns-2 : tie.Need-returns-2
+returns-2 c = simp (ne-eqb _ _ (c .before .before .if1 .left), eq-eqb _ _ (c .before .if2 .taken)) (c .node-row2 .ensures)
+
+sub-row-at : tie.Need-sub-row-at
+sub-row-at c = search needs
+
 mul-row-at : tie.Need-mul-row-at
 mul-row-at c = search needs
 
@@ -13,50 +28,19 @@ add-row-at c = search needs
 row-at-requires : tie.Need-row-at-requires
 row-at-requires c κs = search needs
 
-returns : tie.Need-returns
-returns c = simp (eq-eqb _ _ (c .before .before .if1 .taken)) (c .row-at .ensures)
-
-mul-row-at-2 : tie.Need-mul-row-at-2
-mul-row-at-2 c = search needs
-
-add-row-at-2 : tie.Need-add-row-at-2
-add-row-at-2 c = search needs
-
-row-at-requires-2 : tie.Need-row-at-requires-2
-row-at-requires-2 c κs = search needs
-
-returns-2 : tie.Need-returns-2
-returns-2 c = simp (ne-eqb _ _ (c .before .before .before .if1 .left), eq-eqb _ _ (c .before .before .if2 .taken)) (c .row-at2 .ensures)
-
-sub-row-at : tie.Need-sub-row-at
-sub-row-at c = search needs
-
-mul-row-at-3 : tie.Need-mul-row-at-3
-mul-row-at-3 c = search needs
-
-add-row-at-3 : tie.Need-add-row-at-3
-add-row-at-3 c = search needs
-
-row-at-requires-3 : tie.Need-row-at-requires-3
-row-at-requires-3 c κs = search needs
-
 returns-3 : tie.Need-returns-3
-returns-3 c = simp (ne-eqb _ _ (c .before .before .before .if1 .left), ne-eqb _ _ (c .before .before .if2 .left)) (c .row-at3 .ensures)
+returns-3 c = simp (ne-eqb _ _ (c .before .before .before .if1 .left), ne-eqb _ _ (c .before .before .if2 .left)) (c .row-at .ensures)
 
 pub level-row-spec : {M : Type 1} → statement M
 level-row-spec =
     tie.close
     (tie.spec
+    node-row-requires
+    returns
+    node-row-requires-2
+    returns-2
+    sub-row-at
     mul-row-at
     add-row-at
     row-at-requires
-    returns
-    mul-row-at-2
-    add-row-at-2
-    row-at-requires-2
-    returns-2
-    sub-row-at
-    mul-row-at-3
-    add-row-at-3
-    row-at-requires-3
     returns-3)

@@ -21,14 +21,8 @@ use Rattle.closure.proofs.node.next_step.Tie as tie
 quiet-after : (r : Report) → r ≡ bothReports r quietReport
 quiet-after r = λ i. record { changed = sym (or-false (r .changed)) i; fails = sym (or-false (r .fails)) i }
 
-mul-row-at : tie.Need-mul-row-at
-mul-row-at c = search needs
-
-add-row-at : tie.Need-add-row-at
-add-row-at c = search needs
-
-row-at-requires : tie.Need-row-at-requires
-row-at-requires c κs = search needs
+node-row-requires : tie.Need-node-row-requires
+node-row-requires c κs = search needs
 
 turn-requires : tie.Need-turn-requires
 turn-requires c κs = search needs
@@ -39,23 +33,11 @@ ahead-requires c κs = search needs
 turn-requires-2 : tie.Need-turn-requires-2
 turn-requires-2 c κs = search needs
 
-mul-add : tie.Need-mul-add
-mul-add c = search needs
+add-node-requires : tie.Need-add-node-requires
+add-node-requires c κs = search needs
 
-add-add : tie.Need-add-add
-add-add c = search needs
-
-add-requires : tie.Need-add-requires
-add-requires c κs = search needs
-
-mul-row-at-2 : tie.Need-mul-row-at-2
-mul-row-at-2 c = search needs
-
-add-row-at-2 : tie.Need-add-row-at-2
-add-row-at-2 c = search needs
-
-row-at-requires-2 : tie.Need-row-at-requires-2
-row-at-requires-2 c κs = search needs
+node-row-requires-2 : tie.Need-node-row-requires-2
+node-row-requires-2 c κs = search needs
 
 new-of-requires : tie.Need-new-of-requires
 new-of-requires c κs = search needs
@@ -69,12 +51,12 @@ same-length c = search needs
 returns : tie.Need-returns
 returns c =
     let a = c .before .before .before .before .before .before .before .before .before .before .before .before .before .before .before .before .before .args in
-    let x = c .before .before .before .before .before .before .before .before .before .before .before .before .before .row-at in
+    let x = c .before .before .before .before .before .before .before .before .before .before .before .before .before .node-row in
     let t = c .before .before .before .before .before .before .before .before .before .before .before .before .turn in
     let h = c .before .before .before .before .before .before .before .before .before .before .ahead in
     let u = c .before .before .before .before .before .before .before .before .before .turn2 in
-    let d = c .before .before .before .before .before .before .before .add in
-    let g = c .before .before .before .row-at2 in
+    let d = c .before .before .before .before .before .before .before .add-node in
+    let g = c .before .before .before .node-row2 in
     let w = c .before .before .new-of in
     let z = c .before .is-none in
     let T = now (a .targets) in
@@ -94,21 +76,15 @@ turn-requires-3 : tie.Need-turn-requires-3
 turn-requires-3 c κs = search needs
 
 go-back-requires : tie.Need-go-back-requires
-go-back-requires c κs = let p = c .before .before .before .before .before .before .before .before .before .before .before .before .before .before .before .before .before .before .before .pre in (p .1 .0, (p .1 .1, c .before .before .before .before .before .before .before .before .before .add .kept .0 ∙ p .0 .1 .1))
-
-mul-add-2 : tie.Need-mul-add-2
-mul-add-2 c = omega (arith, c .before .before .before .before .before .before .before .before .before .before .before .before .before .before .before .before .before .before .before .before .before .before .before .pre .0 .1 .0)
-
-add-add-2 : tie.Need-add-add-2
-add-add-2 c = omega (arith, c .before .before .before .before .before .before .before .before .before .before .before .before .before .before .before .before .before .before .before .before .before .before .before .pre .0 .1 .0)
+go-back-requires c κs = let p = c .before .before .before .before .before .before .before .before .before .before .before .before .before .before .before .before .before .before .before .pre in (p .1 .0, (p .1 .1, c .before .before .before .before .before .before .before .before .before .add-node .kept .0 ∙ p .0 .1 .1))
 
 turn-requires-4 : tie.Need-turn-requires-4
 turn-requires-4 c κs = search needs
 
-add-requires-2 : tie.Need-add-requires-2
-add-requires-2 c κs =
+add-node-requires-2 : tie.Need-add-node-requires-2
+add-node-requires-2 c κs =
     let p = c .before .before .before .before .before .before .before .before .before .before .before .before .before .before .before .before .before .before .before .before .before .before .before .before .pre in
-    omega (arith, p .0 .1 .0, p .0 .1 .1, c .before .before .before .before .go-back .kept .1 .0, c .before .before .before .before .before .before .before .before .before .before .before .before .before .before .add .kept .0)
+    omega (arith, p .0 .1 .0, p .0 .1 .1, c .before .before .before .before .go-back .kept .1 .0, c .before .before .before .before .before .before .before .before .before .before .before .before .before .before .add-node .kept .0)
 
 both-requires : tie.Need-both-requires
 both-requires c κs = search needs
@@ -117,17 +93,17 @@ both-requires-2 : tie.Need-both-requires-2
 both-requires-2 c κs = search needs
 
 same-length-2 : tie.Need-same-length-2
-same-length-2 c = c .before .before .before .before .add2 .kept .0 ∙ c .before .before .before .before .before .before .before .before .before .go-back .kept .1 .0 ∙ c .before .before .before .before .before .before .before .before .before .before .before .before .before .before .before .before .before .before .before .add .kept .0
+same-length-2 c = c .before .before .before .before .add-node2 .kept .0 ∙ c .before .before .before .before .before .before .before .before .before .go-back .kept .1 .0 ∙ c .before .before .before .before .before .before .before .before .before .before .before .before .before .before .before .before .before .before .before .add-node .kept .0
 
 returns-2 : tie.Need-returns-2
 returns-2 c =
     let a = c .before .before .before .before .before .before .before .before .before .before .before .before .before .before .before .before .before .before .before .before .before .before .before .before .before .before .before .before .before .args in
-    let x = c .before .before .before .before .before .before .before .before .before .before .before .before .before .before .before .before .before .before .before .before .before .before .before .before .before .row-at in
+    let x = c .before .before .before .before .before .before .before .before .before .before .before .before .before .before .before .before .before .before .before .before .before .before .before .before .before .node-row in
     let t = c .before .before .before .before .before .before .before .before .before .before .before .before .before .before .before .before .before .before .before .before .before .before .before .before .turn in
     let h = c .before .before .before .before .before .before .before .before .before .before .before .before .before .before .before .before .before .before .before .before .before .before .ahead in
     let u = c .before .before .before .before .before .before .before .before .before .before .before .before .before .before .before .before .before .before .before .before .before .turn2 in
-    let d = c .before .before .before .before .before .before .before .before .before .before .before .before .before .before .before .before .before .before .before .add in
-    let g = c .before .before .before .before .before .before .before .before .before .before .before .before .before .before .before .row-at2 in
+    let d = c .before .before .before .before .before .before .before .before .before .before .before .before .before .before .before .before .before .before .before .add-node in
+    let g = c .before .before .before .before .before .before .before .before .before .before .before .before .before .before .before .node-row2 in
     let w = c .before .before .before .before .before .before .before .before .before .before .before .before .before .before .new-of in
     let z = c .before .before .before .before .before .before .before .before .before .before .before .before .before .is-none in
     let T = now (a .targets) in
@@ -140,7 +116,7 @@ returns-2 c =
     let v = c .before .before .before .before .before .before .before .before .before .before .turn3 in
     let k = c .before .before .before .before .before .before .before .before .before .go-back in
     let y = c .before .before .before .before .before .turn4 in
-    let f = c .before .before .before .before .add2 in
+    let f = c .before .before .before .before .add-node2 in
     let some : isNone (newOf (rowAt last (nodePlace (a .i))) N) ≡ false = ap isNone (sym more) ∙ sym (z .ensures) ∙ c .before .before .before .before .before .before .before .before .before .before .before .before .if1 .left in
     let A : v .result ≡ turned (a .every) (newOf (rowAt last (nodePlace (a .i))) N) = v .ensures ∙ ap (turned (a .every)) more in
     λ w. after (λ M. goBackMore T (a .n) (a .every) (newOf (nodeRow M (a .i)) N) (rowAt rows (nodePlace (a .a))) (addRow (nodePlace (a .a))) M)
@@ -156,28 +132,20 @@ pub next-step-spec : {M : Type 1} → statement M
 next-step-spec =
     tie.close
     (tie.spec
-    mul-row-at
-    add-row-at
-    row-at-requires
+    node-row-requires
     turn-requires
     ahead-requires
     turn-requires-2
-    mul-add
-    add-add
-    add-requires
-    mul-row-at-2
-    add-row-at-2
-    row-at-requires-2
+    add-node-requires
+    node-row-requires-2
     new-of-requires
     is-none-requires
     same-length
     returns
     turn-requires-3
     go-back-requires
-    mul-add-2
-    add-add-2
     turn-requires-4
-    add-requires-2
+    add-node-requires-2
     both-requires
     both-requires-2
     same-length-2

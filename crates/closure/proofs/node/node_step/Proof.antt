@@ -37,20 +37,14 @@ stepOf s bases o = nodeStep (now (s .args .table)) (now (s .args .targets)) base
 abbrev released : tie.Start → Bool → ℕ → Stepped
 released s every k = levelsFrom (now (s .args .targets)) (s .args .n) (fixpointAt (s .args .i) every (s .args .x .a) (s .args .x .b) k) (s .args .down) (s .args .n) (memory (now (s .args .rows)) (now (s .args .words))) .done
 
-mul-add : tie.Need-mul-add
-mul-add c = search needs
-
-add-add : tie.Need-add-add
-add-add c = search needs
-
 below-requires : tie.Need-below-requires
 below-requires c κs = search needs
 
 constant-row-requires : tie.Need-constant-row-requires
 constant-row-requires c κs = search needs
 
-add-requires : tie.Need-add-requires
-add-requires c κs = search needs
+add-node-requires : tie.Need-add-node-requires
+add-node-requires c κs = search needs
 
 states-part-requires : tie.Need-states-part-requires
 states-part-requires c κs = search needs
@@ -58,17 +52,11 @@ states-part-requires c κs = search needs
 labelled-states-requires : tie.Need-labelled-states-requires
 labelled-states-requires c κs = search needs
 
-mul-add-2 : tie.Need-mul-add-2
-mul-add-2 c = search needs
-
-add-add-2 : tie.Need-add-add-2
-add-add-2 c = search needs
-
 constant-row-requires-2 : tie.Need-constant-row-requires-2
 constant-row-requires-2 c κs = search needs
 
-add-requires-2 : tie.Need-add-requires-2
-add-requires-2 c κs = search needs
+add-node-requires-2 : tie.Need-add-node-requires-2
+add-node-requires-2 c κs = search needs
 
 same-step-requires : tie.Need-same-step-requires
 same-step-requires c κs = search needs
@@ -95,17 +83,11 @@ release-step-requires-2 c κs =
     let p = c .before .before .before .before .before .before .before .pre in
     (p .0, (p .1 .0, p .1 .1 (omega (arith, c .before .before .match .keys9))))
 
-mul-add-3 : tie.Need-mul-add-3
-mul-add-3 c = search needs
-
-add-add-3 : tie.Need-add-add-3
-add-add-3 c = search needs
-
 constant-row-requires-3 : tie.Need-constant-row-requires-3
 constant-row-requires-3 c κs = search needs
 
-add-requires-3 : tie.Need-add-requires-3
-add-requires-3 c κs = search needs
+add-node-requires-3 : tie.Need-add-node-requires-3
+add-node-requires-3 c κs = search needs
 
 same-length : tie.Need-same-length
 same-length c = search needs
@@ -115,7 +97,7 @@ unfolding nodeStep
 returns c =
     let start = c .before .before .before .before .before .before .before .before .before .before .before in
     let a = start .args in
-    λ bases e. added (now (a .rows)) (nodePlace (a .i)) (c .before .before .before .constant-row .ensures ∙ ap (constantRow (a .n)) (c .before .before .before .before .below .ensures ∙ all-states (a .n) (c .before .before .before .before .before .before .before .before .before .before .before .pre .1 .0 .0))) (c .before .before .add .ensures) (now (a .words))
+    λ bases e. added (now (a .rows)) (nodePlace (a .i)) (c .before .before .before .constant-row .ensures ∙ ap (constantRow (a .n)) (c .before .before .before .before .below .ensures ∙ all-states (a .n) (c .before .before .before .before .before .before .before .before .before .before .before .pre .1 .0 .0))) (c .before .before .add-node .ensures) (now (a .words))
     ∙ sym (ap (stepOf start bases) (of-kind (a .x) 1 (c .before .before .before .before .before .before .match .keys1)))
 
 same-length-2 : tie.Need-same-length-2
@@ -126,7 +108,7 @@ unfolding nodeStep
 returns-2 c =
     let start = c .before .before .before .before .before .before .before .before .before .before .before .before in
     let a = start .args in
-    λ bases e. added (now (a .rows)) (nodePlace (a .i)) (c .before .before .before .constant-row2 .ensures ∙ ap (constantRow (a .n)) (c .before .before .before .before .before .labelled-states .ensures ∙ ap (λ (l : List ℕ). labelledWord l (a .n) (a .x .a)) (c .before .before .before .before .before .before .states-part .ensures))) (c .before .before .add2 .ensures) (now (a .words))
+    λ bases e. added (now (a .rows)) (nodePlace (a .i)) (c .before .before .before .constant-row2 .ensures ∙ ap (constantRow (a .n)) (c .before .before .before .before .before .labelled-states .ensures ∙ ap (λ (l : List ℕ). labelledWord l (a .n) (a .x .a)) (c .before .before .before .before .before .before .states-part .ensures))) (c .before .before .add-node2 .ensures) (now (a .words))
     ∙ sym (ap (stepOf start bases) (of-kind (a .x) 2 (c .before .before .before .before .before .before .before .match .keys2)))
 
 same-length-3 : tie.Need-same-length-3
@@ -221,24 +203,20 @@ returns-10 c =
     let r = c .before .before .before .before .before .match .rest in
     let start = c .before .before .before .before .before .before .before .before .before .before in
     let a = start .args in
-    λ bases e. added (now (a .rows)) (nodePlace (a .i)) (c .before .before .before .constant-row3 .ensures ∙ ap (constantRow (a .n)) (sym (no-states (a .n)))) (c .before .before .add3 .ensures) (now (a .words))
+    λ bases e. added (now (a .rows)) (nodePlace (a .i)) (c .before .before .before .constant-row3 .ensures ∙ ap (constantRow (a .n)) (sym (no-states (a .n)))) (c .before .before .add-node3 .ensures) (now (a .words))
     ∙ sym (ap (stepOf start bases) (no-kind (a .x) (r .0 .0 .0 .0 .0 .0 .0 .0 .1) (r .0 .0 .0 .0 .0 .0 .0 .1) (r .0 .0 .0 .0 .0 .0 .1) (r .0 .0 .0 .0 .0 .1) (r .0 .0 .0 .0 .1) (r .0 .0 .0 .1) (r .0 .0 .1) (r .0 .1) (r .1)))
 
 pub node-step-spec : {M : Type 1} → statement M
 node-step-spec =
     tie.close
     (tie.spec
-    mul-add
-    add-add
     below-requires
     constant-row-requires
-    add-requires
+    add-node-requires
     states-part-requires
     labelled-states-requires
-    mul-add-2
-    add-add-2
     constant-row-requires-2
-    add-requires-2
+    add-node-requires-2
     same-step-requires
     pair-step-requires
     pair-step-requires-2
@@ -246,10 +224,8 @@ node-step-spec =
     next-step-requires-2
     release-step-requires
     release-step-requires-2
-    mul-add-3
-    add-add-3
     constant-row-requires-3
-    add-requires-3
+    add-node-requires-3
     same-length
     returns
     same-length-2
