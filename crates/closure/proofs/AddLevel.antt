@@ -15,12 +15,13 @@ use Rattle.ctl.specs.Rule.{Quantifier, release, operatorOf}
 use Rattle.circuit.specs.Logic.{Literal}
 use Rattle.circuit.specs.Variables.{Var, level}
 use Rattle.rows.specs.declared.row.Row.{Row}
-use Rattle.closure.specs.declared.level.Fixpoint.{Fixpoint}
+use Rattle.propagate.specs.declared.level.Fixpoint.{Fixpoint}
 use Rattle.rows.specs.Words.{rowAt, SmallRow}
-use Rattle.closure.specs.Memory.{Memory, Sized, nodePlace, levelSize, levelBase, levelTotal}
+use Rattle.closure.specs.Knowledge.{Sized, levelSize, levelBase, levelTotal}
+use Rattle.propagate.specs.Memory.{Memory, nodePlace, addRow, addWord}
 use Rattle.closure.specs.Inside.{RowIn}
 use Rattle.closure.specs.Advance.{ForcedBy}
-use Rattle.closure.specs.Sweep.{addRow, addWord, fixpointAt, addLevel}
+use Rattle.propagate.specs.Level.{fixpointAt, addLevel}
 use Rattle.closure.proofs.ClashSound.{clash-in}
 use Rattle.closure.proofs.LevelsFit.{level-apart, level-place}
 use Rattle.closure.proofs.NodeSound.{in-first, in-last}

@@ -15,10 +15,10 @@ use Rattle.circuit.specs.Variables.{Var, kept, value}
 use Rattle.circuit.specs.Clauses.{Clause, clauses}
 use Rattle.rows.specs.declared.row.Row.{Row}
 use Rattle.rows.specs.Words.{SmallRow, stepPlace}
-use Rattle.closure.specs.Memory.{Memory, knowledge, Sized, nodePlace, keptPlace}
+use Rattle.closure.specs.Knowledge.{knowledge, Sized}
+use Rattle.propagate.specs.Memory.{Memory, nodePlace, keptPlace, addRow}
 use Rattle.closure.specs.Inside.{RowIn, StepsIn, Inside}
 use Rattle.closure.specs.Advance.{ForcedBy}
-use Rattle.closure.specs.Sweep.{addRow}
 use Rattle.closure.proofs.Forced.{Closed, forced-closed}
 use Rattle.closure.proofs.ClashSound.{clash-in, clash-steps-in}
 use Rattle.closure.proofs.Advances.{Advances, advance-so}

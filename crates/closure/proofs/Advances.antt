@@ -14,11 +14,11 @@ use Rattle.circuit.specs.Logic.{Literal}
 use Rattle.circuit.specs.Variables.{Var}
 use Rattle.rows.specs.declared.row.Report.{Report}
 use Rattle.rows.specs.Words.{bothReports, quiet}
-use Rattle.closure.specs.Memory.{Memory, Knowledge, knowledge, Sized, total}
+use Rattle.closure.specs.Knowledge.{Knowledge, knowledge, Sized, total}
+use Rattle.propagate.specs.Memory.{Memory, Stepped, failing, Visit, eachWith, eachBelow, ordered}
 use Rattle.closure.specs.Inside.{Inside, Clash}
 use Rattle.closure.specs.Advance.{ForcedBy, Advance}
-use Rattle.closure.specs.Sweep.{Stepped, failing, Visit, eachWith, eachBelow, ordered}
-use Rattle.closure.proofs.Ordered.{ordered-below, ordered-twice}
+use Rattle.propagate.proofs.Ordered.{ordered-below, ordered-twice}
 
 -- a step of the memory advances
 abbrev pub Advances : Table → (Knowledge → Type 0) → Memory → Stepped → Type 0

@@ -23,11 +23,11 @@ use Rattle.rows.specs.Row.{known, turned, only, Within, union}
 use Rattle.rows.specs.Rules.{row, isNone, unmet, lastLeft, backSteps, backEnd}
 use Rattle.closure.specs.Dual.{isEvery}
 use Rattle.rows.specs.Words.{rowAt, SmallRow, stepPlace}
-use Rattle.closure.specs.Memory.{Memory, Knowledge, knowledge, Sized}
+use Rattle.closure.specs.Knowledge.{Knowledge, knowledge, Sized}
+use Rattle.propagate.specs.Memory.{Memory, memory, Stepped, failing, goBack, goBackMore, addRow}
 use Rattle.closure.specs.Inside.{RowIn, StepsIn, Inside}
 use Rattle.rows.specs.Back.{backRows, backRow, backReport}
 use Rattle.closure.specs.Advance.{ForcedBy}
-use Rattle.closure.specs.Sweep.{memory, Stepped, failing, goBack, goBackMore, addRow}
 use Rattle.closure.proofs.RowLaws.{cond-true, turned-small}
 use Rattle.closure.proofs.Ends.{target-small}
 use Rattle.closure.proofs.TurnedRows.{turned-union, turned-within, within-left, within-right}

@@ -12,7 +12,8 @@ use Rattle.circuit.specs.Logic.{Literal}
 use Rattle.circuit.specs.Variables.{Var, step}
 use Rattle.rows.specs.declared.row.Report.{Report}
 use Rattle.rows.specs.Words.{rowAt, SmallRow, stepPlace}
-use Rattle.closure.specs.Memory.{Memory, Knowledge, knowledge, Small, Sized, levelTotal, levelBase, nodePlace, sum, total}
+use Rattle.closure.specs.Knowledge.{Knowledge, knowledge, Small, Sized, levelTotal, levelBase, sum, total}
+use Rattle.propagate.specs.Memory.{Memory, nodePlace}
 use Rattle.closure.specs.Rest.{Rest}
 use Rattle.closure.specs.Inside.{literal, Inside}
 use Rattle.closure.specs.Advance.{ForcedBy, Grows, Advance}

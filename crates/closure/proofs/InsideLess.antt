@@ -10,7 +10,8 @@ use Rattle.circuit.specs.Variables.{Var}
 use Rattle.rows.specs.declared.row.Report.{Report}
 use Rattle.rows.specs.Row.{Within}
 use Rattle.rows.specs.Words.{rowAt, stepPlace}
-use Rattle.closure.specs.Memory.{Memory, Knowledge, knowledge, nodePlace, keptPlace, levelBase, levelRow}
+use Rattle.closure.specs.Knowledge.{Knowledge, knowledge, levelBase, levelRow}
+use Rattle.propagate.specs.Memory.{Memory, nodePlace, keptPlace}
 use Rattle.closure.specs.Inside.{Inside}
 use Rattle.closure.specs.Advance.{Grows, Advance}
 

@@ -17,7 +17,8 @@ use Rattle.circuit.specs.Logic.{Literal}
 use Rattle.circuit.specs.Variables.{Var, kept, level, value}
 use Rattle.circuit.specs.Clauses.{Clause, clauses}
 use Rattle.rows.specs.Words.{rowAt, stepPlace}
-use Rattle.closure.specs.Memory.{Memory, nodePlace, keptPlace, levelBase, levelRow, knowledge}
+use Rattle.closure.specs.Knowledge.{levelBase, levelRow, knowledge}
+use Rattle.propagate.specs.Memory.{Memory, nodePlace, keptPlace}
 use Rattle.closure.specs.Inside.{RowIn, StepsIn, Inside}
 use Rattle.closure.proofs.Forced.{Closed}
 use Rattle.closure.proofs.NodeSound.{first-in, last-in}

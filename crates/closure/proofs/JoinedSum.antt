@@ -7,7 +7,7 @@ use mathlib.Core.List.{List, [], _∷_}
 use lib.ListN.{length, getD}
 use Rattle.rows.specs.declared.row.Row.{Row}
 use Rattle.rows.specs.Words.{joined, reportOf}
-use Rattle.closure.specs.Memory.{sum}
+use Rattle.closure.specs.Knowledge.{sum}
 use Rattle.closure.proofs.JoinedRows.{joined-length, joined-up, joined-more}
 
 -- no word is smaller

@@ -11,11 +11,12 @@ use Rattle.table.specs.Facts.{Wellformed}
 use Rattle.table.specs.Rows.{targetSet}
 use Rattle.ctl.specs.Rule.{rootIndex}
 use Rattle.rows.specs.Words.{rowAt, stepPlace}
-use Rattle.closure.specs.Memory.{Memory, Sized, nodePlace, keptPlace}
+use Rattle.closure.specs.Knowledge.{Sized}
+use Rattle.propagate.specs.Memory.{Memory, nodePlace, keptPlace, _andThen_, addRow, nodeRow}
 use Rattle.rows.specs.Rules.{keptRow, keptSteps, openStarts, startKept, startRoot}
 use Rattle.closure.specs.Rest.{initialSet, RestKept, RestStart}
 use Rattle.closure.specs.Advance.{ForcedBy}
-use Rattle.closure.specs.Sweep.{_andThen_, addRow, nodeRow, keptStep, startStep}
+use Rattle.closure.specs.Sweep.{keptStep, startStep}
 use Rattle.closure.proofs.RowLaws.{set-small}
 use Rattle.closure.proofs.Ends.{target-small}
 use Rattle.closure.proofs.RulesSmall.{kept-small, kept-steps-small, start-kept-small, start-root-small}

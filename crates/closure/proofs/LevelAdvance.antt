@@ -15,18 +15,20 @@ use Rattle.circuit.specs.Logic.{Literal}
 use Rattle.circuit.specs.Variables.{Var, ahead, level, value}
 use Rattle.rows.specs.declared.row.Row.{Row}
 use Rattle.rows.specs.declared.family.Joined.{Joined}
-use Rattle.closure.specs.declared.level.Fixpoint.{Fixpoint}
-use Rattle.closure.specs.declared.levels.Seen.{Seen}
+use Rattle.propagate.specs.declared.level.Fixpoint.{Fixpoint}
+use Rattle.propagate.specs.declared.levels.Seen.{Seen}
 use Rattle.rows.specs.Row.{ClearAt, clashes}
 use Rattle.rows.specs.Rules.{eitherRow, joinRelease}
 use Rattle.closure.specs.Dual.{isEvery}
 use Rattle.rows.specs.Words.{SmallRow, stepPlace}
-use Rattle.closure.specs.Memory.{Memory, Knowledge, knowledge, Sized, nodePlace, levelBase}
+use Rattle.closure.specs.Knowledge.{Knowledge, knowledge, Sized, levelBase}
+use Rattle.propagate.specs.Memory.{Memory, nodePlace, Visit, nodeRow}
 use Rattle.closure.specs.Rest.{RestLevel}
 use Rattle.closure.specs.Inside.{RowIn, Clash}
 use Rattle.closure.specs.Advance.{ForcedBy}
-use Rattle.closure.specs.Sweep.{Visit, nodeRow, fixpointAt, addLevel, levelWith, levelStep, alike, nothingSeen, levelVisit, levelsFrom}
-use Rattle.closure.proofs.Visits.{alike-parts, visit-alike, visit-other}
+use Rattle.propagate.specs.Level.{fixpointAt, addLevel, levelWith, levelStep, alike, nothingSeen, levelVisit, levelsFrom}
+use Rattle.propagate.proofs.Visits.{visit-alike, visit-other}
+use Rattle.closure.proofs.Visits.{alike-parts}
 use Rattle.closure.proofs.RowLaws.{clear-row}
 use Rattle.closure.proofs.RulesSmall.{either-small, join-level-small, join-a-small, join-b-small, join-ahead-small}
 use Rattle.closure.proofs.AheadSound.{aheadOver}

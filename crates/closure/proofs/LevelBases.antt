@@ -15,7 +15,7 @@ use Rattle.table.proofs.Numbers.{two}
 use Rattle.table.proofs.Past.{node-past}
 use Rattle.table.proofs.Records.{records-length}
 use Rattle.ctl.specs.Rule.{Operator, constant, atom, negation, conjunction, disjunction, next, release, operators, operatorOf}
-use Rattle.closure.specs.Memory.{levelSize, levelSizes, levelBase, levelTotal}
+use Rattle.closure.specs.Knowledge.{levelSize, levelSizes, levelBase, levelTotal}
 use Rattle.closure.proofs.LevelsFit.{base-next}
 
 module _ (n a b : ℕ) where

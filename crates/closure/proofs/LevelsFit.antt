@@ -12,7 +12,7 @@ use Rattle.table.specs.Table.{Table, zeroNode, nodeAt}
 use Rattle.table.specs.Facts.{Wellformed}
 use Rattle.ctl.specs.Rule.{Quantifier, Operator, constant, atom, negation, conjunction, disjunction, next, release, operatorOf}
 use Rattle.circuit.specs.Variables.{costOf, costs, variableFormula}
-use Rattle.closure.specs.Memory.{levelSize, levelSizes, levelBase, levelTotal}
+use Rattle.closure.specs.Knowledge.{levelSize, levelSizes, levelBase, levelTotal}
 
 module _ (n : ℕ) where
   -- the words of one node more

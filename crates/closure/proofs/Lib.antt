@@ -40,8 +40,6 @@ pub mod RestKept
 pub mod RestDemands
 pub mod RestNodes
 pub mod RestForced
-pub mod Chain
-pub mod Ordered
 pub mod NodeLevels
 pub mod SettingFacts
 pub mod Closing

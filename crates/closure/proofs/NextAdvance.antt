@@ -19,10 +19,11 @@ use Rattle.rows.specs.Row.{turned, WithinAt}
 use Rattle.rows.specs.Rules.{row, unmet, newOf}
 use Rattle.closure.specs.Dual.{isEvery}
 use Rattle.rows.specs.Words.{rowAt, SmallRow, stepPlace}
-use Rattle.closure.specs.Memory.{Memory, Sized, nodePlace}
+use Rattle.closure.specs.Knowledge.{Sized}
+use Rattle.propagate.specs.Memory.{Memory, nodePlace, _andThen_, addRow, nodeRow, aheadIn, goBackMore}
 use Rattle.closure.specs.Rest.{aheadOf, RestBack}
 use Rattle.closure.specs.Advance.{ForcedBy}
-use Rattle.closure.specs.Sweep.{_andThen_, addRow, nodeRow, aheadIn, goBackMore, nextStep}
+use Rattle.propagate.specs.Gates.{nextStep}
 use Rattle.closure.proofs.RowLaws.{turned-small}
 use Rattle.closure.proofs.RulesSmall.{ahead-small}
 use Rattle.closure.proofs.AheadSound.{aheadOver}

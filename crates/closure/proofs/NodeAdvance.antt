@@ -21,10 +21,12 @@ use Rattle.ctl.proofs.BottomUp.{Below, children-below}
 use Rattle.rows.specs.Row.{ClearAt}
 use Rattle.rows.specs.Rules.{constantRow}
 use Rattle.closure.specs.Dual.{isEvery}
-use Rattle.closure.specs.Memory.{Memory, Knowledge, knowledge, Sized, nodePlace, levelBase, levelRow}
+use Rattle.closure.specs.Knowledge.{Knowledge, knowledge, Sized, levelBase, levelRow}
+use Rattle.propagate.specs.Memory.{Memory, nodePlace, addRow}
 use Rattle.closure.specs.Rest.{labelledSet, constantSet, RestSame, RestBoth, RestNode}
 use Rattle.closure.specs.Advance.{ForcedBy}
-use Rattle.closure.specs.Sweep.{addRow, sameStep, bothStep, nodeStep}
+use Rattle.closure.specs.Sweep.{nodeStep}
+use Rattle.propagate.specs.Gates.{sameStep, bothStep}
 use Rattle.closure.proofs.RowLaws.{set-small}
 use Rattle.closure.proofs.RulesSmall.{constant-small}
 use Rattle.closure.proofs.GateOf.{bothOf}

@@ -12,7 +12,7 @@ use Rattle.table.specs.Facts.{Wellformed}
 use Rattle.table.specs.Accept.{shapes, shapeOf, fieldsFit}
 use Rattle.ctl.specs.Rule.{every, some}
 use Rattle.ctl.proofs.OfKind.{of-kind}
-use Rattle.closure.specs.Memory.{levelBase, levelTotal}
+use Rattle.closure.specs.Knowledge.{levelBase, levelTotal}
 use Rattle.closure.proofs.LevelsFit.{level-place}
 
 -- no kind past 9 fits

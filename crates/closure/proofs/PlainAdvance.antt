@@ -14,13 +14,14 @@ use Rattle.circuit.specs.Variables.{Var, value}
 use Rattle.rows.specs.declared.row.Row.{Row}
 use Rattle.rows.specs.Row.{turned, Within, Clear}
 use Rattle.rows.specs.Words.{SmallRow}
-use Rattle.closure.specs.Memory.{Memory, Knowledge, Sized, nodePlace}
+use Rattle.closure.specs.Knowledge.{Knowledge, Sized}
+use Rattle.propagate.specs.Memory.{Memory, nodePlace, addRow, nodeRow}
 use Rattle.rows.specs.Rules.{andOutput, andInput}
 use Rattle.closure.specs.Dual.{isEvery}
 use Rattle.closure.specs.Rest.{RestSame, RestBoth}
 use Rattle.closure.specs.Inside.{RowIn}
 use Rattle.closure.specs.Advance.{ForcedBy}
-use Rattle.closure.specs.Sweep.{addRow, nodeRow, sameStep, bothStep}
+use Rattle.propagate.specs.Gates.{sameStep, bothStep}
 use Rattle.closure.proofs.RowLaws.{and-true, or-true, turned-small}
 use Rattle.closure.proofs.TurnedRows.{turned-twice, turned-within, within-trans}
 use Rattle.closure.proofs.RulesSmall.{output-small, input-small}

@@ -16,7 +16,7 @@ use Rattle.rows.specs.declared.row.Row.{Row}
 use Rattle.rows.specs.Row.{known, turned, WithinAt, ClearAt}
 use Rattle.closure.specs.Dual.{isEvery}
 use Rattle.rows.specs.Words.{SmallRow}
-use Rattle.closure.specs.Memory.{Knowledge, Small}
+use Rattle.closure.specs.Knowledge.{Knowledge, Small}
 use Rattle.closure.specs.Rest.{aheadOf, RestBack, Rest}
 use Rattle.closure.specs.Inside.{literal}
 use Rattle.closure.proofs.RowLaws.{set-true, some-nonempty, and-true, turned-small}

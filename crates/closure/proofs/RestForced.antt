@@ -16,7 +16,7 @@ use Rattle.circuit.proofs.Covered.{clause-variables}
 use Rattle.circuit.proofs.Clauses.{each-clause}
 use Rattle.closure.specs.Closure.{given, unit, Fails}
 use Rattle.rows.specs.Row.{known, ClearAt}
-use Rattle.closure.specs.Memory.{Knowledge, Small}
+use Rattle.closure.specs.Knowledge.{Knowledge, Small}
 use Rattle.closure.specs.Rest.{Rest}
 use Rattle.closure.specs.Inside.{literal}
 use Rattle.closure.specs.Advance.{ForcedBy}

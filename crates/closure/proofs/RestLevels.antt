@@ -17,7 +17,7 @@ use Rattle.circuit.proofs.Lists.{Each, each-more, each-one, each-append, each-o
 use Rattle.rows.specs.Row.{turned, WithinAt, ClearAt}
 use Rattle.rows.specs.Rules.{newOf}
 use Rattle.closure.specs.Dual.{isEvery}
-use Rattle.closure.specs.Memory.{Knowledge, Small}
+use Rattle.closure.specs.Knowledge.{Knowledge, Small}
 use Rattle.closure.specs.Rest.{aheadOf, RestBack, RestLevel, Rest}
 use Rattle.closure.specs.Inside.{literal}
 use Rattle.closure.proofs.Says.{edgesOver, aheadLevel, eitherLevel, edgesAt, aheadAt, eitherAt, rowOf, placeOf, Says, Is, one-row, two-rows}

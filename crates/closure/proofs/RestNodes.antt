@@ -10,7 +10,7 @@ use Rattle.ctl.specs.Rule.{every, some, Operator, constant, atom, negation, con
 use Rattle.ctl.proofs.BottomUp.{OfChildren, of-children}
 use Rattle.circuit.specs.Gates.{nodeGates, keptGates, gates}
 use Rattle.circuit.proofs.Lists.{Each, each-append, each-over}
-use Rattle.closure.specs.Memory.{Knowledge, Small}
+use Rattle.closure.specs.Knowledge.{Knowledge, Small}
 use Rattle.closure.specs.Rest.{RestNode, Rest}
 use Rattle.closure.proofs.RestAhead.{Good}
 use Rattle.closure.proofs.RestPlain.{constant-good, negation-good, both-good}

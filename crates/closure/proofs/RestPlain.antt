@@ -19,7 +19,7 @@ use Rattle.circuit.proofs.Lists.{Each, each-one, each-over}
 use Rattle.rows.specs.Row.{known, turned, WithinAt}
 use Rattle.rows.specs.Rules.{constantRow}
 use Rattle.closure.specs.Dual.{isEvery}
-use Rattle.closure.specs.Memory.{Knowledge}
+use Rattle.closure.specs.Knowledge.{Knowledge}
 use Rattle.closure.specs.Rest.{RestBoth, RestSame, Rest}
 use Rattle.closure.specs.Inside.{literal}
 use Rattle.closure.proofs.RowLaws.{without-true, set-true, set-small}

@@ -14,7 +14,7 @@ use Rattle.rows.specs.declared.row.Row.{Row}
 use Rattle.rows.specs.Row.{known, turned, WithinAt}
 use Rattle.rows.specs.Rules.{row, eitherRow, joinRelease}
 use Rattle.closure.specs.Dual.{isEvery}
-use Rattle.closure.specs.Memory.{Knowledge}
+use Rattle.closure.specs.Knowledge.{Knowledge}
 use Rattle.closure.specs.Rest.{aheadOf}
 use Rattle.closure.proofs.TurnedRows.{turned-known, turned-opposite}
 use Rattle.closure.proofs.AndClosed.{AndRules, one-rules, two-rules}

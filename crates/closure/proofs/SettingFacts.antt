@@ -10,7 +10,7 @@ use Rattle.table.specs.Facts.{Wellformed}
 use Rattle.table.proofs.Accepted.{accepted}
 use Rattle.table.proofs.ReadNode.{ReadNode, read-node}
 use Rattle.closure.specs.declared.net.Net.{Net}
-use Rattle.closure.specs.Memory.{levelBase, levelTotal}
+use Rattle.closure.specs.Knowledge.{levelBase, levelTotal}
 use Rattle.closure.specs.Setting.{Setting}
 use Rattle.closure.proofs.NodeLevels.{node-levels}
 

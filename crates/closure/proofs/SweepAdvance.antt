@@ -18,11 +18,12 @@ use Rattle.ctl.specs.Rule.{operatorOf}
 use Rattle.closure.specs.declared.net.Net.{Net}
 use Rattle.rows.specs.declared.row.Report.{Report}
 use Rattle.rows.specs.Words.{rowAt, quiet}
-use Rattle.closure.specs.Memory.{Memory, Knowledge, knowledge, Sized, nodePlace}
+use Rattle.closure.specs.Knowledge.{Knowledge, knowledge, Sized}
+use Rattle.propagate.specs.Memory.{Memory, nodePlace, Stepped, Visit, eachBelow}
 use Rattle.closure.specs.Rest.{RestKept, RestStart, Rest}
 use Rattle.closure.specs.Setting.{netOf, Setting}
 use Rattle.closure.specs.Advance.{Advance}
-use Rattle.closure.specs.Sweep.{Stepped, Visit, eachBelow, keptStep, nodeStep, nodeLook, nodeVisit, nodesFrom, startsStep, sweep}
+use Rattle.closure.specs.Sweep.{keptStep, nodeStep, nodeLook, nodeVisit, nodesFrom, startsStep, sweep}
 use Rattle.closure.proofs.Advances.{Advances, advance-so, advance-then, advance-failing, advance-each, advance-ordered, quiet-parts, quiet-still}
 use Rattle.closure.proofs.RowLaws.{set-true}
 use Rattle.closure.proofs.Visits.{visit-resting, visit-node}

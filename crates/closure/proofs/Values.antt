@@ -8,7 +8,7 @@ use Rattle.circuit.specs.Variables.{Var, step, kept, node, edge, ahead, either,
 use Rattle.circuit.proofs.Distinct.{nodeOf}
 use Rattle.circuit.proofs.Value.{value-cases}
 use Rattle.rows.specs.Row.{turned}
-use Rattle.closure.specs.Memory.{Knowledge}
+use Rattle.closure.specs.Knowledge.{Knowledge}
 use Rattle.closure.specs.Rest.{Rest}
 use Rattle.closure.specs.Inside.{literal}
 use Rattle.closure.proofs.Says.{rowOf, placeOf, Is}

@@ -1,7 +1,7 @@
 -- Looking at a level or a node: passed over where it is like the one seen last, or at rest; else its rule is applied.
-use Prim.Native.Nat.{ℕ, suc}
-use mathlib.Core.Path.{_≡_, ap}
-use mathlib.Core.Bool.{Bool, true, false, cond}
+use Prim.Native.Nat.{ℕ}
+use mathlib.Core.Path.{_≡_}
+use mathlib.Core.Bool.{Bool, true, false}
 use mathlib.Core.List.{List}
 use borrow.Author.Tests.{eqb-true}
 use lib.Dec.{eqb}
@@ -9,11 +9,12 @@ use Rattle.sets.specs.Member.{member}
 use Rattle.table.proofs.Bools.{and-parts}
 use Rattle.rows.specs.declared.row.Row.{Row}
 use Rattle.closure.specs.declared.net.Net.{Net}
-use Rattle.closure.specs.declared.level.Fixpoint.{Fixpoint}
-use Rattle.closure.specs.declared.levels.Seen.{Seen}
+use Rattle.propagate.specs.declared.levels.Seen.{Seen}
 use Rattle.rows.specs.Row.{sameRow}
-use Rattle.closure.specs.Memory.{Memory}
-use Rattle.closure.specs.Sweep.{passed, levelAt, alike, levelLook, levelVisit, nodeLook, nodeVisit}
+use Rattle.propagate.specs.Memory.{Memory, passed}
+use Rattle.closure.specs.Sweep.{nodeLook, nodeVisit}
+use Rattle.propagate.specs.Level.{alike}
+use Rattle.propagate.proofs.Visits.{told}
 
 same-row : (r q : Row) → sameRow r q ≡ true → r ≡ q
 same-row r q e =
@@ -26,19 +27,6 @@ alike-parts v level below e =
     let p = and-parts (v .quiet) _ e in
     let s = and-parts (sameRow (v .level) level) (sameRow (v .below) below) (p .1) in
     (p .0, same-row (v .level) level (s .0), same-row (v .below) below (s .1))
-
--- either is done, once it is known which
-told : {A : Type 0} (x y : A) {a b : Bool} → a ≡ b → cond a x y ≡ cond b x y
-told x y = ap (λ (b : Bool). cond b x y)
-
-module _ (targets : List ℕ) (n : ℕ) (x : Fixpoint) (m : ℕ) (v : Seen) (M : Memory) where
-  pub visit-alike : alike v (levelAt n x (suc m) M) (levelAt n x m M) ≡ true → levelVisit targets n x m v M ≡ passed v M
-  unfolding levelVisit
-  visit-alike = told (passed v M) (levelLook targets n x m M)
-
-  pub visit-other : alike v (levelAt n x (suc m) M) (levelAt n x m M) ≡ false → levelVisit targets n x m v M ≡ levelLook targets n x m M
-  unfolding levelVisit
-  visit-other = told (passed v M) (levelLook targets n x m M)
 
 module _ (table : List ℕ) (net : Net) (targets bases : List ℕ) (down : Bool) (i resting : ℕ) (M : Memory) where
   pub visit-resting : member resting i ≡ true → nodeVisit table net targets bases down i resting M ≡ passed resting M

@@ -12,7 +12,8 @@ use Rattle.circuit.specs.Variables.{Var}
 use Rattle.circuit.specs.Clauses.{clauses}
 use Rattle.rows.specs.declared.row.Report.{Report}
 use Rattle.closure.specs.Closure.{Forced}
-use Rattle.closure.specs.Memory.{Memory, Knowledge, knowledge, Sized, levelTotal, total}
+use Rattle.closure.specs.Knowledge.{Knowledge, knowledge, Sized, levelTotal, total}
+use Rattle.propagate.specs.Memory.{Memory}
 use Rattle.closure.specs.Inside.{Inside, Clash}
 
 -- the closure of a list of literals, by the clauses of the table: 01's words

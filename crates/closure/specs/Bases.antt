@@ -4,7 +4,7 @@ use mathlib.Core.Path.{_≡_}
 use lib.ListN.{length, getD}
 use Rattle.table.specs.Table.{Table}
 use Rattle.closure.specs.declared.bases.Bases.{Bases}
-use Rattle.closure.specs.Memory.{levelBase, levelTotal}
+use Rattle.closure.specs.Knowledge.{levelBase, levelTotal}
 
 pub record AreBases (T : Table) (b : Bases) : Type 0 where
   pub size : length (b .at) ≡ 32

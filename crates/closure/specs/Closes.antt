@@ -13,7 +13,8 @@ use Rattle.circuit.specs.Clauses.{clauses}
 use Rattle.closure.specs.Closure.{Fails}
 use Rattle.rows.specs.Row.{known}
 use Rattle.rows.specs.Words.{stepPlace, rowAt}
-use Rattle.closure.specs.Memory.{Memory, knowledge, Sized, levelTotal}
+use Rattle.closure.specs.Knowledge.{knowledge, Sized, levelTotal}
+use Rattle.propagate.specs.Memory.{Memory}
 use Rattle.closure.specs.Inside.{literal, Inside}
 use Rattle.closure.specs.Advance.{ForcedBy}
 

@@ -9,7 +9,7 @@ use Rattle.circuit.specs.Logic.{Literal}
 use Rattle.circuit.specs.Variables.{Var, step, kept, level, value}
 use Rattle.rows.specs.declared.row.Row.{Row}
 use Rattle.rows.specs.Row.{known}
-use Rattle.closure.specs.Memory.{Knowledge}
+use Rattle.closure.specs.Knowledge.{Knowledge}
 
 abbrev pub literal : Bool → Var → Literal Var
 literal sign v = record { sign = sign; var = v }

@@ -1,7 +1,7 @@
 pub mod Closure
 pub mod Given
 pub mod Numbered
-pub mod Memory
+pub mod Knowledge
 pub mod Dual
 pub mod Rest
 pub mod Inside

@@ -13,7 +13,7 @@ use Rattle.rows.specs.declared.row.Row.{Row}
 use Rattle.rows.specs.Row.{known, turned, WithinAt, Within, ClearAt}
 use Rattle.rows.specs.Rules.{aheadRow, backSteps, backEnd, andOutput, andInput, eitherRow, joinRelease, newOf, keptRow, keptSteps, openStarts, startKept, startRoot, constantRow}
 use Rattle.closure.specs.Dual.{isEvery}
-use Rattle.closure.specs.Memory.{Knowledge}
+use Rattle.closure.specs.Knowledge.{Knowledge}
 
 -- the states whose label has p
 abbrev pub labelledSet : Table → ℕ → ℕ

@@ -7,7 +7,7 @@ ghost use Rattle.table.specs.declared.refusal.Verdict.the-variants.{Accepted};
 ghost use Rattle.table.specs.Table.{tableOf};
 ghost use Rattle.table.specs.Accept.{tableVerdict};
 ghost use Rattle.ctl.specs.Rule.{constant, operators};
-ghost use Rattle.closure.specs.Memory.{levelSize};
+ghost use Rattle.closure.specs.Knowledge.{levelSize};
 ghost use Rattle.closure.specs.Bases.{AreBases};
 
 // Where those of each node begin, and how many there are in all.

@@ -1,7 +1,6 @@
 // K of each state with its steps, and the demands of the initial states.
-use crate::layout::KEPT_PLACE;
-use crate::layout::add_node;
-use crate::layout::node_row;
+use propagate::add_node;
+use propagate::node_row;
 use rows::Report;
 use rows::Row;
 use rows::add;
@@ -14,7 +13,11 @@ ghost use mathlib.Core.Path.{_≡_};
 ghost use mathlib.Core.List.{List};
 ghost use Prim.Native.Nat.{ℕ, _≤_, _<_};
 ghost use lib.ListN.{length};
-ghost use Rattle.closure.specs.Sweep.{memory, stepped, eachBelow, keptStep, startStep};
+ghost use Rattle.closure.specs.Sweep.{keptStep, startStep};
+ghost use Rattle.propagate.specs.Memory.{memory, stepped, eachBelow};
+
+// Where the row of K lies.
+const KEPT_PLACE: usize = 128;
 
 fn kept_step(targets: &[u32], rows: &mut [u32], s: usize) -> Report
     requires { ⌜ (s < 32) × ((length (now targets) ≡ 32) × (length (now rows) ≡ 130)) ⌝ }

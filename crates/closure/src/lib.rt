@@ -1,9 +1,6 @@
 // The closure of a set of literals, by unit propagation over rows of machine words.
 mod bases;
 mod kept;
-mod layout;
-mod level;
-mod levels;
 mod net;
 mod node;
 mod nodes;

@@ -8,8 +8,9 @@ ghost use mathlib.Core.Path.{_≡_};
 ghost use Prim.Native.Nat.{_≤_, _<_};
 ghost use lib.ListN.{length};
 ghost use Rattle.table.specs.Table.{tableOf};
-ghost use Rattle.closure.specs.Memory.{levelTotal};
-ghost use Rattle.closure.specs.Sweep.{memory, stepped, nodeVisit, nodesFrom};
+ghost use Rattle.closure.specs.Knowledge.{levelTotal};
+ghost use Rattle.closure.specs.Sweep.{nodeVisit, nodesFrom};
+ghost use Rattle.propagate.specs.Memory.{memory, stepped};
 ghost use Rattle.closure.specs.Setting.{Setting};
 
 // What looking at a node, or at nodes, did, and the nodes that are then at rest.

@@ -7,8 +7,9 @@ use crate::nodes::nodes_step;
 use rows::both;
 ghost use mathlib.Core.Path.{_≡_};
 ghost use Rattle.table.specs.Table.{tableOf};
-ghost use Rattle.closure.specs.Memory.{Sized};
-ghost use Rattle.closure.specs.Sweep.{memory, stepped, sweep};
+ghost use Rattle.closure.specs.Knowledge.{Sized};
+ghost use Rattle.closure.specs.Sweep.{sweep};
+ghost use Rattle.propagate.specs.Memory.{memory, stepped};
 ghost use Rattle.closure.specs.Setting.{Setting};
 ghost use Rattle.closure.specs.Closes.{Closed};
 

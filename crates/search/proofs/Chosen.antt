@@ -19,8 +19,8 @@ use Rattle.rows.specs.declared.row.Row.{Row}
 use Rattle.closure.specs.Closure.{given}
 use Rattle.rows.specs.Row.{known}
 use Rattle.rows.specs.Words.{rowAt, stepPlace}
-use Rattle.closure.specs.Memory.{Sized, nodePlace, keptPlace, levelBase}
-use Rattle.closure.specs.Sweep.{memory}
+use Rattle.closure.specs.Knowledge.{Sized, levelBase}
+use Rattle.propagate.specs.Memory.{nodePlace, keptPlace, memory}
 use Rattle.closure.specs.Inside.{literal, RowIn, StepsIn}
 use Rattle.closure.specs.Advance.{ForcedBy}
 use Rattle.closure.specs.Closes.{stepKnown, Between}

@@ -12,7 +12,7 @@ use Rattle.circuit.specs.Logic.{Literal}
 use Rattle.circuit.specs.Variables.{variableCount}
 use Rattle.closure.specs.Closure.{Marks, markAt, known, Progress, clash, marked}
 use Rattle.closure.specs.Numbered.{numberedClauses}
-use Rattle.closure.specs.Memory.{Memory}
+use Rattle.propagate.specs.Memory.{Memory}
 use Rattle.closure.specs.Closes.{stepKnown, Closes}
 use Rattle.closure.proofs.Computed.{closure-fails, closure-holds}
 use Rattle.closure.proofs.Places.{steps-fit, numbered-inside}

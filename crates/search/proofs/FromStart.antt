@@ -4,7 +4,7 @@ use native.Mathlib.Omega.{arith}
 use mathlib.Core.Path.{_≡_, refl, sym, subst, _∙_}
 use mathlib.Core.List.{List, []}
 use Rattle.table.specs.Table.{Table}
-use Rattle.closure.specs.Memory.{Memory}
+use Rattle.propagate.specs.Memory.{Memory}
 use Rattle.search.specs.declared.outcome.Outcome.{Outcome as Answer}
 use Rattle.search.specs.declared.reach.Reached.{Reached}
 use Rattle.search.specs.declared.reach.Reached.the-variants.{Ended, Unsettled}

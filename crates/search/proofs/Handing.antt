@@ -8,8 +8,8 @@ use Rattle.table.specs.Table.{tableOf}
 use Rattle.table.specs.Facts.{Wellformed}
 use Rattle.table.proofs.Accepted.{accepted}
 use Rattle.closure.specs.declared.net.Net.{Net}
-use Rattle.closure.specs.Memory.{Sized}
-use Rattle.closure.specs.Sweep.{memory}
+use Rattle.closure.specs.Knowledge.{Sized}
+use Rattle.propagate.specs.Memory.{memory}
 use Rattle.search.specs.Stands.{Handed}
 use Rattle.search.proofs.Zeroed.{zeros}
 

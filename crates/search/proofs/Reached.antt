@@ -12,7 +12,7 @@ use Rattle.table.specs.Table.{Table}
 use Rattle.table.specs.Facts.{Wellformed}
 use Rattle.circuit.specs.Logic.{Literal}
 use Rattle.closure.specs.Closure.{Marks, markAt, isKnown, marked}
-use Rattle.closure.specs.Memory.{Memory}
+use Rattle.propagate.specs.Memory.{Memory}
 use Rattle.closure.specs.Closes.{Closes}
 use Rattle.search.specs.declared.outcome.Outcome.the-variants.{Found, None}
 use Rattle.search.specs.declared.reach.Reached.the-variants.{Ended, Unsettled}

@@ -13,7 +13,7 @@ use Rattle.table.specs.Facts.{Wellformed}
 use Rattle.circuit.specs.Logic.{Literal, pos}
 use Rattle.circuit.specs.Variables.{variableCount}
 use Rattle.closure.specs.Closure.{Marks, Progress, clash, marked}
-use Rattle.closure.specs.Memory.{Memory}
+use Rattle.propagate.specs.Memory.{Memory}
 use Rattle.closure.specs.Numbered.{numberedClauses}
 use Rattle.closure.proofs.Grow.{closure-keeps}
 use Rattle.closure.proofs.Places.{numbered-inside}

@@ -14,8 +14,8 @@ use Rattle.circuit.specs.Logic.{Literal}
 use Rattle.circuit.specs.Variables.{Var}
 use Rattle.rows.specs.Row.{known}
 use Rattle.rows.specs.Words.{rowAt, stepPlace}
-use Rattle.closure.specs.Memory.{Sized, nodePlace, keptPlace, levelRow, levelBase, levelTotal}
-use Rattle.closure.specs.Sweep.{memory}
+use Rattle.closure.specs.Knowledge.{Sized, levelRow, levelBase, levelTotal}
+use Rattle.propagate.specs.Memory.{nodePlace, keptPlace, memory}
 use Rattle.closure.specs.Closes.{Between}
 
 pub zeros : (n k : ℕ) → getD {A = ℕ} (replicate n 0) k 0 ≡ 0

@@ -12,7 +12,8 @@ use Rattle.circuit.specs.Variables.{Var, step, variableCount}
 use Rattle.closure.specs.declared.net.Net.{Net}
 use Rattle.closure.specs.Closure.{Marks, markAt, isKnown, known, Progress, clash, marked, closure}
 use Rattle.closure.specs.Numbered.{numberedClauses}
-use Rattle.closure.specs.Memory.{Memory, Sized, levelTotal}
+use Rattle.closure.specs.Knowledge.{Sized, levelTotal}
+use Rattle.propagate.specs.Memory.{Memory}
 use Rattle.closure.specs.Inside.{literal}
 use Rattle.closure.specs.Closes.{stepKnown, Between}
 use Rattle.closure.specs.Setting.{Setting}

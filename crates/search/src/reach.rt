@@ -7,8 +7,8 @@ use closure::Net;
 ghost use Prim.Native.Nat.{_≤_};
 ghost use lib.ListN.{length};
 ghost use Rattle.table.specs.Table.{tableOf};
-ghost use Rattle.closure.specs.Memory.{Sized};
-ghost use Rattle.closure.specs.Sweep.{memory};
+ghost use Rattle.closure.specs.Knowledge.{Sized};
+ghost use Rattle.propagate.specs.Memory.{memory};
 ghost use Rattle.closure.specs.Setting.{Setting};
 ghost use Rattle.search.specs.Stands.{Reaches};
 

@@ -10,7 +10,7 @@ ghost use mathlib.Core.Path.{_≡_};
 ghost use Prim.Native.Nat.{ℕ, _≤_};
 ghost use lib.ListN.{length, getD};
 ghost use Rattle.table.specs.Table.{tableOf};
-ghost use Rattle.closure.specs.Memory.{levelTotal};
+ghost use Rattle.closure.specs.Knowledge.{levelTotal};
 ghost use Rattle.closure.specs.Setting.{Setting};
 ghost use Rattle.search.specs.TableSearch.{searchUnder};
 ghost use Rattle.search.specs.Answer.{outcomeOf, listAfter};

@@ -10,7 +10,7 @@ use closure::Net;
 ghost use Prim.Native.Nat.{_≤_};
 ghost use lib.ListN.{length, replicate};
 ghost use Rattle.table.specs.Table.{tableOf};
-ghost use Rattle.closure.specs.Sweep.{memory};
+ghost use Rattle.propagate.specs.Memory.{memory};
 ghost use Rattle.search.specs.Stands.{Handed, GoesOn, Somewhere, GivesFrom, walkFrom, struckFrom};
 
 // Chooses step j kept and searches on; if that gives none, struck.

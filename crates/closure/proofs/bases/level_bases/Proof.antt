@@ -12,7 +12,7 @@ use Rattle.table.specs.declared.counts.Counts.{Counts}
 use Rattle.table.specs.Table.{tableOf, nodesPart, nodeOf, nodeWidth, nodeAt}
 use Rattle.table.proofs.Accepted.{accepted}
 use Rattle.ctl.specs.Rule.{operatorOf}
-use Rattle.closure.specs.Memory.{levelSize, levelSizes, levelBase}
+use Rattle.closure.specs.Knowledge.{levelSize, levelSizes, levelBase}
 use Rattle.closure.proofs.LevelBases.{node-anywhere, base-on, past, size-most}
 use Rattle.closure.proofs.bases.level_bases.Statement.{statement}
 use Rattle.closure.proofs.bases.level_bases.Tie as tie

@@ -7,8 +7,9 @@ use native.Mathlib.Omega.{arith}
 use borrow.Author.Needs.{needs}
 use lib.ListN.{length}
 use denote.Ref.{now}
-use Rattle.closure.specs.Sweep.{memory, stepped, eachBelow, eachWith, keptStep}
-use Rattle.closure.proofs.Chain.{after}
+use Rattle.closure.specs.Sweep.{keptStep}
+use Rattle.propagate.specs.Memory.{memory, stepped, eachBelow, eachWith}
+use Rattle.propagate.proofs.Chain.{after}
 use Rattle.closure.proofs.kept.kept_states.Statement.{statement}
 use Rattle.closure.proofs.kept.kept_states.Tie as tie
 

@@ -4,9 +4,9 @@ use lib.ListN.{getD}
 use denote.Ref.{now}
 use Rattle.rows.specs.Rules.{keptRow, keptSteps}
 use Rattle.rows.specs.Words.{stepPlace}
-use Rattle.closure.specs.Memory.{keptPlace}
+use Rattle.propagate.specs.Memory.{keptPlace}
 use Rattle.closure.specs.Sweep.{keptStep}
-use Rattle.closure.proofs.Chain.{added, after-add}
+use Rattle.propagate.proofs.Chain.{added, after-add}
 use borrow.Author.Needs.{needs}
 use Rattle.closure.proofs.kept.kept_step.Statement.{statement}
 use Rattle.closure.proofs.kept.kept_step.Tie as tie

@@ -9,9 +9,9 @@ use Rattle.rows.specs.declared.row.Row.{Row}
 use Rattle.rows.specs.Row.{only}
 use Rattle.rows.specs.Rules.{openStarts, startKept, startRoot}
 use Rattle.rows.specs.Words.{rowAt}
-use Rattle.closure.specs.Memory.{nodePlace, keptPlace}
-use Rattle.closure.specs.Sweep.{failing, memory, startStep}
-use Rattle.closure.proofs.Chain.{after-add}
+use Rattle.propagate.specs.Memory.{nodePlace, keptPlace, failing, memory}
+use Rattle.closure.specs.Sweep.{startStep}
+use Rattle.propagate.proofs.Chain.{after-add}
 use borrow.Author.Needs.{needs}
 use Rattle.closure.proofs.kept.start_step.Statement.{statement}
 use Rattle.closure.proofs.kept.start_step.Tie as tie

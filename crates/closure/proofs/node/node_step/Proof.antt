@@ -14,9 +14,10 @@ use Rattle.table.specs.StateSets.{labelledWord}
 use Rattle.ctl.specs.Rule.{Operator}
 use Rattle.ctl.proofs.OfKind.{of-kind, no-kind}
 use Rattle.rows.specs.Rules.{constantRow}
-use Rattle.closure.specs.Memory.{nodePlace}
-use Rattle.closure.specs.Sweep.{Stepped, memory, fixpointAt, levelsFrom, nodeStep}
-use Rattle.closure.proofs.Chain.{added}
+use Rattle.propagate.specs.Memory.{nodePlace, Stepped, memory}
+use Rattle.closure.specs.Sweep.{nodeStep}
+use Rattle.propagate.specs.Level.{fixpointAt, levelsFrom}
+use Rattle.propagate.proofs.Chain.{added}
 use borrow.Author.Needs.{needs}
 use Rattle.closure.proofs.node.node_step.Statement.{statement}
 use Rattle.closure.proofs.node.node_step.Tie as tie

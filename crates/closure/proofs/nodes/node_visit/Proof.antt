@@ -12,7 +12,8 @@ use Rattle.table.specs.declared.record.Node.{Node}
 use Rattle.table.specs.Table.{tableOf, nodeAt}
 use Rattle.ctl.specs.Rule.{operatorOf}
 use Rattle.rows.specs.Words.{quiet}
-use Rattle.closure.specs.Sweep.{Stepped, Visit, memory, stepped, nodeStep}
+use Rattle.closure.specs.Sweep.{nodeStep}
+use Rattle.propagate.specs.Memory.{Stepped, Visit, memory, stepped}
 use Rattle.closure.proofs.Visits.{visit-resting, visit-node}
 use Rattle.closure.proofs.SettingFacts.{few-states, few-nodes, node-here, levels-in}
 use Rattle.closure.proofs.nodes.node_visit.Statement.{statement}

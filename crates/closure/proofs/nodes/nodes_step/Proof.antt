@@ -7,10 +7,10 @@ use native.Mathlib.Omega.{arith}
 use borrow.Author.Needs.{needs}
 use lib.ListN.{length}
 use denote.Ref.{now}
-use Rattle.closure.specs.Memory.{Memory}
-use Rattle.closure.specs.Sweep.{Visit, memory, stepped, eachWith, ordered, nodeVisit, nodesFrom}
-use Rattle.closure.proofs.Chain.{after-visit}
-use Rattle.closure.proofs.Ordered.{going-down, going-up, ordered-below}
+use Rattle.propagate.specs.Memory.{Memory, Visit, memory, stepped, eachWith, ordered}
+use Rattle.closure.specs.Sweep.{nodeVisit, nodesFrom}
+use Rattle.propagate.proofs.Chain.{after-visit}
+use Rattle.propagate.proofs.Ordered.{going-down, going-up, ordered-below}
 use Rattle.closure.proofs.SettingFacts.{few-nodes}
 use Rattle.closure.proofs.nodes.nodes_step.Statement.{statement}
 use Rattle.closure.proofs.nodes.nodes_step.Tie as tie

@@ -10,11 +10,12 @@ use denote.Ref.{now}
 use Rattle.table.specs.Table.{tableOf}
 use Rattle.closure.specs.declared.net.Net.{Net}
 use Rattle.closure.specs.declared.nodes.Visited.{Visited}
-use Rattle.closure.specs.Memory.{Sized, knowledge, total}
+use Rattle.closure.specs.Knowledge.{Sized, knowledge, total}
 use Rattle.closure.specs.Rest.{Rest}
 use Rattle.closure.specs.Advance.{Advance}
 use Rattle.closure.specs.Setting.{Setting}
-use Rattle.closure.specs.Sweep.{Stepped, memory, stepped, sweep}
+use Rattle.closure.specs.Sweep.{sweep}
+use Rattle.propagate.specs.Memory.{Stepped, memory, stepped}
 use Rattle.closure.proofs.SettingFacts.{wellformed}
 use Rattle.closure.proofs.NodeAdvance.{Resting, none-rest}
 use Rattle.closure.proofs.SweepAdvance.{sweep-advance}

@@ -5,8 +5,9 @@ use mathlib.Core.Bool.{Bool, true, false, cond}
 use mathlib.Core.Logic.{⊎-elim}
 use native.Mathlib.Omega.{arith}
 use denote.Ref.{now}
-use Rattle.closure.specs.Sweep.{Stepped, Visit, memory, stepped, startStep, nodesFrom, startsStep, sweep}
-use Rattle.closure.proofs.Chain.{after}
+use Rattle.closure.specs.Sweep.{startStep, nodesFrom, startsStep, sweep}
+use Rattle.propagate.specs.Memory.{Stepped, Visit, memory, stepped}
+use Rattle.propagate.proofs.Chain.{after}
 use Rattle.closure.proofs.SettingFacts.{few-states, few-nodes, some-node}
 use borrow.Author.Needs.{needs}
 use Rattle.closure.proofs.sweep.sweep_once.Statement.{statement}

@@ -15,7 +15,7 @@ use Rattle.table.proofs.TargetSets.{targets-length, targets-at}
 use Rattle.circuit.specs.Variables.{variableFormula}
 use Rattle.closure.specs.declared.net.Net.{Net}
 use Rattle.closure.specs.declared.bases.Bases.{Bases}
-use Rattle.closure.specs.Memory.{levelTotal}
+use Rattle.closure.specs.Knowledge.{levelTotal}
 use Rattle.closure.specs.Setting.{Setting, netOf}
 use Rattle.closure.specs.Bases.{AreBases}
 use Rattle.closure.proofs.LevelsFit.{levels-fit}

@@ -10,8 +10,8 @@ use denote.Ref.{now}
 use Rattle.table.specs.Table.{tableOf}
 use Rattle.table.proofs.Accepted.{accepted}
 use Rattle.table.proofs.Buffer.{front-written}
-use Rattle.closure.specs.Memory.{Sized}
-use Rattle.closure.specs.Sweep.{memory}
+use Rattle.closure.specs.Knowledge.{Sized}
+use Rattle.propagate.specs.Memory.{memory}
 use Rattle.closure.specs.Closes.{Between}
 use Rattle.search.specs.Stands.{Comes}
 use Rattle.search.proofs.Zeroed.{none-between, none-sized}

@@ -11,8 +11,8 @@ use Rattle.table.specs.Table.{tableOf}
 use Rattle.table.specs.Facts.{Wellformed}
 use Rattle.circuit.specs.Logic.{Literal, neg}
 use Rattle.closure.specs.Closure.{Marks}
-use Rattle.closure.specs.Memory.{Sized}
-use Rattle.closure.specs.Sweep.{memory}
+use Rattle.closure.specs.Knowledge.{Sized}
+use Rattle.propagate.specs.Memory.{memory}
 use Rattle.closure.specs.Closes.{Between}
 use Rattle.search.specs.declared.choices.Choice.the-variants.{Next}
 use Rattle.search.specs.Counted.{counted}

@@ -1,0 +1,88 @@
+-- `level_visit` meets its contract: a level like the one seen last is passed over, any other is looked at.
+use Prim.Native.Nat.{ℕ, suc}
+use mathlib.Core.Path.{_≡_, sym, ap, _∙_}
+use native.Mathlib.Numerals.{add-one}
+use denote.Ref.{now}
+use Rattle.propagate.specs.declared.levels.Seen.{Seen}
+use Rattle.rows.specs.Words.{quiet}
+use Rattle.propagate.specs.Memory.{Stepped, Visit, memory}
+use Rattle.propagate.specs.Level.{levelAt, alike}
+use Rattle.propagate.proofs.Visits.{visit-alike, visit-other}
+use borrow.Author.Needs.{needs}
+use Rattle.propagate.proofs.levels.level_visit.Statement.{statement}
+use Rattle.propagate.proofs.levels.level_visit.Tie as tie
+
+add-level-row : tie.Need-add-level-row
+add-level-row c = search needs
+
+level-row-requires : tie.Need-level-row-requires
+level-row-requires c κs = search needs
+
+level-row-requires-2 : tie.Need-level-row-requires-2
+level-row-requires-2 c κs = search needs
+
+is-alike-requires : tie.Need-is-alike-requires
+is-alike-requires c κs = search needs
+
+same-length : tie.Need-same-length
+same-length c = search needs
+
+same-length-2 : tie.Need-same-length-2
+same-length-2 c = search needs
+
+returns : tie.Need-returns
+returns c =
+    let a = c .before .before .before .before .before .before .before .before .before .before .before .args in
+    let M = memory (now (a .rows)) (now (a .words)) in
+    let l = c .before .before .before .before .before .level-row in
+    let b = c .before .before .level-row2 in
+    let above : l .result ≡ levelAt (a .n) (a .x) (suc (a .m)) M = l .ensures ∙ ap (λ (k : ℕ). levelAt (a .n) (a .x) k M) (add-one (a .m)) in
+    let like : c .before .is-alike .result ≡ alike (a .seen) (levelAt (a .n) (a .x) (suc (a .m)) M) (levelAt (a .n) (a .x) (a .m) M) =
+    c .before .is-alike .ensures ∙ (λ i. alike (a .seen) (above i) (b .ensures i)) in
+    let e = visit-alike (now (a .targets)) (a .n) (a .x) (a .m) (a .seen) M (sym like ∙ c .if1 .taken) in
+    (sym (ap (λ (v : Visit Seen). v .done) e), sym (ap (λ (v : Visit Seen). v .left) e))
+
+level-step-requires : tie.Need-level-step-requires
+level-step-requires c κs = search needs
+
+is-quiet-requires : tie.Need-is-quiet-requires
+is-quiet-requires c κs = search needs
+
+same-length-3 : tie.Need-same-length-3
+same-length-3 c = search needs
+
+same-length-4 : tie.Need-same-length-4
+same-length-4 c = search needs
+
+returns-2 : tie.Need-returns-2
+returns-2 c =
+    let a = c .before .before .before .before .before .before .before .before .before .before .before .before .before .before .before .before .before .before .before .args in
+    let M = memory (now (a .rows)) (now (a .words)) in
+    let l = c .before .before .before .before .before .before .before .before .before .before .before .before .before .level-row in
+    let b = c .before .before .before .before .before .before .before .before .before .before .level-row2 in
+    let above : l .result ≡ levelAt (a .n) (a .x) (suc (a .m)) M = l .ensures ∙ ap (λ (k : ℕ). levelAt (a .n) (a .x) k M) (add-one (a .m)) in
+    let like : c .before .before .before .before .before .before .before .before .before .is-alike .result ≡ alike (a .seen) (levelAt (a .n) (a .x) (suc (a .m)) M) (levelAt (a .n) (a .x) (a .m) M) =
+    c .before .before .before .before .before .before .before .before .before .is-alike .ensures ∙ (λ i. alike (a .seen) (above i) (b .ensures i)) in
+    let s = c .before .before .before .before .before .level-step in
+    let e = visit-other (now (a .targets)) (a .n) (a .x) (a .m) (a .seen) M (sym like ∙ c .before .before .before .before .before .before .before .before .if1 .left) in (
+      s .ensures ∙ sym (ap (λ (v : Visit Seen). v .done) e),
+      (λ i. record { quiet = (c .is-quiet .ensures ∙ ap (λ (z : Stepped). quiet (z .report)) (s .ensures)) i; level = above i; below = b .ensures i })
+          ∙ sym (ap (λ (v : Visit Seen). v .left) e),
+    )
+
+pub level-visit-spec : {M : Type 1} → statement M
+level-visit-spec =
+    tie.close
+    (tie.spec
+    add-level-row
+    level-row-requires
+    level-row-requires-2
+    is-alike-requires
+    same-length
+    same-length-2
+    returns
+    level-step-requires
+    is-quiet-requires
+    same-length-3
+    same-length-4
+    returns-2)
