@@ -30,13 +30,13 @@ use Rattle.label.specs.Calls.{labelBuffer, heldStates, holdingVerdict, holdingA
 use Rattle.label.proofs.Exact.{label-untouched, label-written}
 use Rattle.label.proofs.Held.{held-count, held-once, held-member, held-few}
 use Rattle.label.proofs.Order.{table-accepted, room-accepted}
-use Rattle.sheet.specs.declared.answer.Read.{Read}
-use Rattle.sheet.specs.declared.answer.Read.the-variants.{Refused as ReadRefused}
+use Rattle.reader.specs.declared.answer.Read.{Read}
+use Rattle.reader.specs.declared.answer.Read.the-variants.{Refused as ReadRefused}
 use Rattle.sheet.specs.Form.{Sheet}
 use Rattle.sheet.specs.Parse.{parse}
-use Rattle.sheet.specs.Read.{pack, packed, sheetVerdict, readVerdict, answer, readBuffer}
+use Rattle.reader.specs.Read.{pack, packed, sheetVerdict, readVerdict, answer, readBuffer}
 use Rattle.sheet.proofs.Whole.{parse-exact}
-use Rattle.sheet.proofs.Outcome.{length-back}
+use Rattle.reader.proofs.Outcome.{length-back}
 use Rattle.repair.specs.declared.answer.Answer.{Answer}
 use Rattle.repair.specs.Outcome.{repairVerdict, repairList}
 use Rattle.repair.proofs.Answered.{refused-back, found-back, none-back, spent-back, choices-back}

@@ -24,9 +24,9 @@ use Rattle.search.specs.Search.{found}
 use Rattle.search.specs.TableSearch.{searchUnder, listOf}
 use Rattle.label.specs.declared.holding.Holding.the-variants.{Count, Refused as HoldingRefused}
 use Rattle.label.specs.Calls.{labelVerdict, labelBuffer, holdingVerdict, holdingAnswer, holdingBuffer}
-use Rattle.sheet.specs.declared.answer.Read.the-variants.{Length, Refused as ReadRefused}
+use Rattle.reader.specs.declared.answer.Read.the-variants.{Length, Refused as ReadRefused}
 use Rattle.sheet.specs.Form.{Sheet, InRange, render}
-use Rattle.sheet.specs.Read.{pack, readVerdict, readAnswer, readBuffer}
+use Rattle.reader.specs.Read.{pack, readVerdict, readAnswer, readBuffer}
 use Rattle.repair.specs.declared.answer.Answer.the-variants.{Found, None, Spent, Refused as RepairRefused}
 use Rattle.repair.specs.Answer.{answerChoices}
 use Rattle.repair.specs.Outcome.{repairVerdict, repairAnswer, repairList, repairBytes, repairWords}

@@ -3,8 +3,8 @@ use Prim.Native.Nat.{ℕ}
 use mathlib.Core.Option.{Option, none, some}
 use Rattle.label.specs.declared.holding.Holding.{Holding}
 use Rattle.label.specs.declared.holding.Holding.the-variants.{Count, Refused}
-use Rattle.sheet.specs.declared.answer.Read.{Read}
-use Rattle.sheet.specs.declared.answer.Read.the-variants.{Length, Refused as ReadRefused}
+use Rattle.reader.specs.declared.answer.Read.{Read}
+use Rattle.reader.specs.declared.answer.Read.the-variants.{Length, Refused as ReadRefused}
 use Rattle.repair.specs.declared.answer.Answer.{Answer}
 use Rattle.repair.specs.Answer.{answerChoices}
 

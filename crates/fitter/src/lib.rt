@@ -1,13 +1,13 @@
 // The face of the fitter to C: every call answers a number, and leaves in every lent buffer what its contract says.
 use label::Holding;
+use reader::Read;
 use repair::Answer;
-use sheet::Read;
 ghost use mathlib.Core.Path.{_≡_};
 ghost use lib.ListN.{length};
 ghost use Rattle.table.specs.Verdict.{verdictNumber};
 ghost use Rattle.ctl.specs.Tests.{judgeVerdict};
 ghost use Rattle.label.specs.Calls.{labelVerdict, labelBuffer, holdingAnswer, holdingBuffer, holdingNumber};
-ghost use Rattle.sheet.specs.Read.{readAnswer, readBuffer, readNumber};
+ghost use Rattle.reader.specs.Read.{readAnswer, readBuffer, readNumber};
 ghost use Rattle.repair.specs.Answer.{answerNumber};
 ghost use Rattle.repair.specs.Outcome.{repairAnswer, repairList, repairBytes, repairWords};
 ghost use Rattle.fitter.specs.Exports.{holdingCount, readLength, repairChoices};
@@ -92,7 +92,7 @@ pub extern "C" fn fitter_read(text: &[u8], out: &mut [u8], length: &mut u64) -> 
     ensures { λ _. ⌜ now (out .exit) ≡ readBuffer (now (text .entry)) (now (out .entry)) ⌝ }
     ensures { λ _. ⌜ now (length .exit) ≡ readLength (readAnswer (now (text .entry)) (now (out .entry))) (now (length .entry)) ⌝ }
 {
-    match sheet::read(text, out) {
+    match reader::read(text, out) {
         Read::Length(k) => {
             *length = k as u64;
             0

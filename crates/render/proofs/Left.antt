@@ -6,7 +6,7 @@ use native.Mathlib.Nat.{add-zero}
 use native.Mathlib.Omega.{arith}
 use lib.ListN.{length, length-append}
 use lib.Seq.{sets, length-sets}
-use Rattle.sheet.proofs.Stores.{sets-append}
+use Rattle.reader.proofs.Stores.{sets-append}
 use Rattle.render.specs.Render.{Room, Stored}
 
 -- of `bytes`, to be stored in `before` from `at` on, `rest` is left, to be stored in `now` from `place` on

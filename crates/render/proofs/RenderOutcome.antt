@@ -13,7 +13,7 @@ use Rattle.table.specs.Verdict.{require}
 use Rattle.table.specs.Accept.{tableVerdict}
 use Rattle.table.proofs.Verdicts.{then-refused, then-next}
 use Rattle.sheet.specs.Form.{render}
-use Rattle.sheet.specs.Read.{buffer}
+use Rattle.reader.specs.Read.{buffer}
 use Rattle.render.specs.declared.answer.Rendered.{Rendered}
 use Rattle.render.specs.declared.answer.Rendered.the-variants.{Length, Refused as RenderRefused}
 use Rattle.render.specs.Render.{sheetOf, renderVerdict, rendered, renderAnswer, renderBuffer}

@@ -11,13 +11,13 @@ use Rattle.table.specs.declared.refusal.Verdict.the-variants.{Accepted}
 use Rattle.table.specs.Table.{records, countsOf, packedLength, stateOf, stepOf, nodeOf, statesPart, stepsPart, nodesPart, stateWidth, stepWidth, nodeWidth, headerWidth}
 use Rattle.table.specs.Accept.{tableVerdict}
 use Rattle.table.proofs.Accepted.{header-accepted}
-use Rattle.sheet.specs.declared.answer.Read.the-variants.{Length}
+use Rattle.reader.specs.declared.answer.Read.the-variants.{Length}
 use Rattle.sheet.specs.Form.{Sheet, InRange, bytesOf, render}
 use Rattle.sheet.specs.Parse.{parse}
-use Rattle.sheet.specs.Read.{packCounts, packState, packStep, packNode, pack, readAnswer, readBuffer}
+use Rattle.reader.specs.Read.{packCounts, packState, packStep, packNode, pack, readAnswer, readBuffer}
 use Rattle.sheet.proofs.Whole.{parse-exact, parse-render}
-use Rattle.sheet.proofs.Packed.{counts-pack, table-pack}
-use Rattle.sheet.proofs.Outcome.{accepted-read}
+use Rattle.reader.proofs.Packed.{counts-pack, table-pack}
+use Rattle.reader.proofs.Outcome.{accepted-read}
 use Rattle.render.specs.Render.{sheetOf}
 use Rattle.render.proofs.Ranges.{Bytes, bytes-drop, bytes-part, sheet-range}
 

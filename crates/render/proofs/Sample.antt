@@ -2,7 +2,7 @@
 use mathlib.Core.Path.{_≡_, refl}
 use Rattle.table.specs.Table.{records}
 use Rattle.sheet.specs.Form.{digits, decimal, line, bytesOf, render}
-use Rattle.sheet.proofs.Sample.{text, table}
+use Rattle.reader.proofs.Sample.{text, table}
 use Rattle.render.specs.Render.{sheetOf}
 
 pub sample-written : render (sheetOf table) ≡ text

@@ -12,7 +12,7 @@ use Rattle.table.specs.Verdict.{require, _then_}
 use Rattle.table.specs.Table.{countsOf, statesOf, stepsOf, nodesOf}
 use Rattle.table.specs.Accept.{tableVerdict}
 use Rattle.sheet.specs.Form.{Sheet, render}
-use Rattle.sheet.specs.Read.{buffer}
+use Rattle.reader.specs.Read.{buffer}
 use Rattle.render.specs.declared.answer.Rendered.{Rendered}
 use Rattle.render.specs.declared.answer.Rendered.the-variants.{Length, Refused as RenderRefused}
 

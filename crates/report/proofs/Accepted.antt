@@ -14,11 +14,11 @@ use Rattle.table.specs.declared.refusal.Verdict.the-variants.{Accepted}
 use Rattle.table.specs.Buffer.{onAccepted}
 use Rattle.table.specs.Accept.{tableVerdict}
 use Rattle.table.proofs.Verdicts.{refused, then-accepted, require-accepted}
-use Rattle.sheet.specs.declared.answer.Read.the-variants.{Length}
+use Rattle.reader.specs.declared.answer.Read.the-variants.{Length}
 use Rattle.sheet.specs.Form.{Sheet}
 use Rattle.sheet.specs.Parse.{parse}
-use Rattle.sheet.specs.Read.{pack, packed, sheetVerdict, readVerdict, readAnswer, readBuffer}
-use Rattle.sheet.proofs.Outcome.{length-back}
+use Rattle.reader.specs.Read.{pack, packed, sheetVerdict, readVerdict, readAnswer, readBuffer}
+use Rattle.reader.proofs.Outcome.{length-back}
 
 -- where every test passed, the packed table was accepted, and has room
 tests-passed : (p : Option Sheet) (room : ℕ) → sheetVerdict p room ≡ Accepted → (tableVerdict (packed p) ≡ Accepted) × (length (packed p) ≤ room)

@@ -9,8 +9,8 @@ use borrow.Author.Tests.{le-leb, lt-leb}
 use lib.ListN.{length, drop}
 use lib.Seq.{sets-eq}
 use Rattle.table.specs.declared.refusal.Refusal.the-variants.{SheetForm}
-use Rattle.sheet.specs.declared.answer.Read.{Read}
-use Rattle.sheet.specs.Read.{readAnswer, readBuffer}
+use Rattle.reader.specs.declared.answer.Read.{Read}
+use Rattle.reader.specs.Read.{readAnswer, readBuffer}
 use Rattle.render.specs.Render.{Room, Stored}
 use Rattle.report.specs.Report.{refused, zeros, readText, limited, fitText}
 use Rattle.report.proofs.Fits.{text-length}

@@ -20,10 +20,10 @@ use Rattle.table.proofs.Bools.{and-parts}
 use Rattle.search.specs.Search.{Outcome, found, none, spent}
 use Rattle.search.specs.TableSearch.{searchUnder}
 use Rattle.search.specs.Right.{choices}
-use Rattle.sheet.specs.declared.answer.Read.{Read}
-use Rattle.sheet.specs.declared.answer.Read.the-variants.{Length, Refused as ReadRefused}
+use Rattle.reader.specs.declared.answer.Read.{Read}
+use Rattle.reader.specs.declared.answer.Read.the-variants.{Length, Refused as ReadRefused}
 use Rattle.sheet.specs.Form.{ascii, decimal, ended, line}
-use Rattle.sheet.specs.Read.{readAnswer, readBuffer}
+use Rattle.reader.specs.Read.{readAnswer, readBuffer}
 use Rattle.render.proofs.Number.{low-length}
 use Rattle.render.proofs.Bounds.{more-digits, ended-length}
 use Rattle.repair.specs.Outcome.{repairVerdict, answerAt, answerOf, repairList}

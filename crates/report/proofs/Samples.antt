@@ -15,7 +15,7 @@ use Rattle.search.specs.Search.{walk, search}
 use Rattle.search.specs.TableSearch.{tableSearch}
 use Rattle.sheet.specs.Form.{digits, decimal, line, bytesOf}
 use Rattle.sheet.specs.Parse.{exactly, digitsUpTo, field, times, sheetParser, parse}
-use Rattle.sheet.specs.Read.{pack, readVerdict}
+use Rattle.reader.specs.Read.{pack, readVerdict}
 use Rattle.repair.specs.Outcome.{repairVerdict}
 use Rattle.report.specs.Report.{keptLines, tableText, fitText}
 use Rattle.report.specs.Samples.{Sample, samples}

@@ -10,10 +10,10 @@ use Rattle.table.specs.declared.refusal.Refusal.{Refusal}
 use Rattle.table.specs.declared.refusal.Refusal.the-variants.{SheetForm}
 use Rattle.table.specs.Verdict.{refusalNumber}
 use Rattle.table.specs.Table.{stepsOf}
-use Rattle.sheet.specs.declared.answer.Read.{Read}
-use Rattle.sheet.specs.declared.answer.Read.the-variants.{Length, Refused as ReadRefused}
+use Rattle.reader.specs.declared.answer.Read.{Read}
+use Rattle.reader.specs.declared.answer.Read.the-variants.{Length, Refused as ReadRefused}
 use Rattle.sheet.specs.Form.{ascii, line}
-use Rattle.sheet.specs.Read.{readAnswer, readBuffer}
+use Rattle.reader.specs.Read.{readAnswer, readBuffer}
 use Rattle.repair.specs.declared.answer.Answer.{Answer}
 use Rattle.repair.specs.declared.answer.Answer.the-variants.{Found, None, Spent, Refused}
 use Rattle.repair.specs.Outcome.{repairAnswer, repairList}

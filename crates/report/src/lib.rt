@@ -5,7 +5,7 @@ mod steps;
 
 use answer::write_refused;
 use answer::write_result;
-use sheet::Read;
+use reader::Read;
 use table::Refusal;
 ghost use mathlib.Core.Path.{_≡_};
 ghost use mathlib.Core.List.{_++_};
@@ -44,7 +44,7 @@ pub fn fit_report(text: &[u8], out: &mut [u8]) -> usize
         return write_refused(out, Refusal::SheetForm);
     }
     let mut table = [0u8; 452];
-    match sheet::read(text, &mut table) {
+    match reader::read(text, &mut table) {
         Read::Length(n) => report_table(&table[..n], out),
         Read::Refused(refusal) => write_refused(out, refusal),
     }

@@ -4,11 +4,5 @@ pub mod FieldSteps
 pub mod FieldExact
 pub mod Lines
 pub mod Whole
-pub mod Packed
 pub mod Times
 pub mod Blocks
-pub mod Stores
-pub mod Packing
-pub mod Outcome
-pub mod Sample
-pub mod Readings

@@ -1,8 +1,8 @@
 -- `fitter_read` meets its contract: Read's buffer, and its answer taken apart into a number and a length.
 use mathlib.Core.Path.{sym, ap, _∙_}
 use denote.Ref.{now}
-use Rattle.sheet.specs.declared.answer.Read.{Read}
-use Rattle.sheet.specs.Read.{readNumber}
+use Rattle.reader.specs.declared.answer.Read.{Read}
+use Rattle.reader.specs.Read.{readNumber}
 use Rattle.fitter.specs.Exports.{readLength}
 use borrow.Author.Needs.{needs}
 use Rattle.fitter.proofs.fitter_read.Statement.{statement}

@@ -9,9 +9,9 @@ use denote.Ref.{now}
 use borrow.Author.Needs.{needs}
 use Rattle.table.specs.declared.refusal.Verdict.the-variants.{Accepted}
 use Rattle.table.specs.Accept.{tableVerdict}
-use Rattle.sheet.specs.declared.answer.Read.{Read}
-use Rattle.sheet.specs.declared.answer.Read.the-variants.{Length}
-use Rattle.sheet.specs.Read.{readAnswer}
+use Rattle.reader.specs.declared.answer.Read.{Read}
+use Rattle.reader.specs.declared.answer.Read.the-variants.{Length}
+use Rattle.reader.specs.Read.{readAnswer}
 use Rattle.render.proofs.Left.{room-as, stored-as}
 use Rattle.report.specs.Report.{zeros, readText, fitText}
 use Rattle.report.proofs.Accepted.{read-short, read-accepted}

@@ -11,7 +11,7 @@ use Rattle.table.specs.Table.{countsOf}
 use Rattle.table.specs.Accept.{tableVerdict}
 use Rattle.table.proofs.Accepted.{header-accepted, counts-within}
 use Rattle.sheet.specs.Form.{render}
-use Rattle.sheet.proofs.Stores.{sets-front}
+use Rattle.reader.proofs.Stores.{sets-front}
 use Rattle.render.specs.declared.answer.Rendered.the-variants.{Length}
 use Rattle.render.specs.Render.{sheetOf}
 use Rattle.render.proofs.Ranges.{sheet-range}
