@@ -1,57 +1,71 @@
--- `node_at` meets its contract, field by field.
-use mathlib.Core.Path.{sym, ap, _∙_}
-use Prim.Native.Nat.{_*_}
+-- `node_at` meets its contract: a whole record is at its place.
+use mathlib.Core.Path.{sym}
+use Prim.Native.Nat.{_+_, _*_}
 use native.Mathlib.Omega.{arith}
 use lib.Seq.{getD-drop}
 use denote.Ref.{now}
-use Rattle.table.specs.Table.{nodeOf, nodeWidth}
-use Rattle.table.proofs.Records.{field-first, past}
+use Rattle.table.specs.Table.{nodeWidth}
+use Rattle.table.proofs.Records.{field-first}
 use borrow.Author.Needs.{needs}
 use Rattle.table.proofs.record.node_at.Statement.{statement}
 use Rattle.table.proofs.record.node_at.Tie as tie
-
-returns : tie.Need-returns
-returns c =
-    let a = c .before .before .args in
-    ap nodeOf (sym (past 3 (a .i) (now (a .section)) (omega arith)))
-
-mul-at : tie.Need-mul-at
-mul-at c = search needs
-
-byte-at-requires : tie.Need-byte-at-requires
-byte-at-requires c κs = search needs
-
-add-byte-at : tie.Need-add-byte-at
-add-byte-at c = search needs
-
-byte-at-requires-2 : tie.Need-byte-at-requires-2
-byte-at-requires-2 c κs = search needs
-
-add-byte-at-2 : tie.Need-add-byte-at-2
-add-byte-at-2 c = search needs
-
-byte-at-requires-3 : tie.Need-byte-at-requires-3
-byte-at-requires-3 c κs = search needs
 
 returns-2 : tie.Need-returns-2
 returns-2 c =
     let a = c .before .before .before .before .before .args in
     let l = now (a .section) in
     λ i. record {
-      kind = (c .before .before .byte-at .ensures ∙ sym (field-first (nodeWidth * a .i) l)) i;
-      a = (c .before .byte-at2 .ensures ∙ sym (getD-drop (nodeWidth * a .i) l 1 0)) i;
-      b = (c .byte-at3 .ensures ∙ sym (getD-drop (nodeWidth * a .i) l 2 0)) i;
+      kind = sym (field-first (nodeWidth * a .i) l) i;
+      a = sym (getD-drop (nodeWidth * a .i) l 1 0) i;
+      b = sym (getD-drop (nodeWidth * a .i) l 2 0) i;
     }
+
+cut-node-requires : tie.Need-cut-node-requires
+cut-node-requires c κs = search needs
+
+returns : tie.Need-returns
+returns c = search needs
+
+mul-at : tie.Need-mul-at
+mul-at c = search needs
+
+shared-slice-read-t8 : tie.Need-shared-slice-read-t8
+shared-slice-read-t8 c = search needs
+
+cast-t4 : tie.Need-cast-t4
+cast-t4 c = omega (arith, c .shared-slice-known2 .given (nodeWidth * c .before .before .before .args .i))
+
+add-t5 : tie.Need-add-t5
+add-t5 c = search needs
+
+shared-slice-read-t10 : tie.Need-shared-slice-read-t10
+shared-slice-read-t10 c = search needs
+
+cast-t11 : tie.Need-cast-t11
+cast-t11 c = omega (arith, c .shared-slice-known3 .given (nodeWidth * c .before .before .before .before .args .i + 1))
+
+add-t12 : tie.Need-add-t12
+add-t12 c = search needs
+
+shared-slice-read-t14 : tie.Need-shared-slice-read-t14
+shared-slice-read-t14 c = search needs
+
+cast-t15 : tie.Need-cast-t15
+cast-t15 c = omega (arith, c .shared-slice-known4 .given (nodeWidth * c .before .before .before .before .before .args .i + 2))
 
 pub node-at-spec : {M : Type 1} → statement M
 node-at-spec =
     tie.close
     (tie.spec
+    cut-node-requires
     returns
     mul-at
-    byte-at-requires
-    add-byte-at
-    byte-at-requires-2
-    add-byte-at-2
-    byte-at-requires-3
+    shared-slice-read-t8
+    cast-t4
+    add-t5
+    shared-slice-read-t10
+    cast-t11
+    add-t12
+    shared-slice-read-t14
+    cast-t15
     returns-2)

@@ -1,11 +1,11 @@
--- `state_at` meets its contract, field by field; two bytes make a label.
-use mathlib.Core.Path.{sym, ap, ap₂, _∙_}
-use Prim.Native.Nat.{ℕ, _*_, _+_}
+-- `state_at` meets its contract: a whole record is at its place; two bytes make a label.
+use mathlib.Core.Path.{sym, ap₂}
+use Prim.Native.Nat.{ℕ, _+_, _*_}
 use native.Mathlib.Omega.{arith}
 use lib.Seq.{getD-drop}
 use denote.Ref.{now}
-use Rattle.table.specs.Table.{stateOf, stateWidth}
-use Rattle.table.proofs.Records.{field-first, past}
+use Rattle.table.specs.Table.{stateWidth}
+use Rattle.table.proofs.Records.{field-first}
 use borrow.Author.Needs.{needs}
 use Rattle.table.proofs.record.state_at.Statement.{statement}
 use Rattle.table.proofs.record.state_at.Tie as tie
@@ -15,50 +15,64 @@ returns-2 c =
     let a = c .before .before .before .before .before .args in
     let l = now (a .section) in
     λ i. record {
-      initial = (c .byte-at3 .ensures ∙ sym (field-first (stateWidth * a .i) l)) i;
-      label = (ap₂ (λ (x y : ℕ). x + 256 * y) (c .before .before .byte-at .ensures ∙ sym (getD-drop (stateWidth * a .i) l 1 0)) (c .before .byte-at2 .ensures ∙ sym (getD-drop (stateWidth * a .i) l 2 0))) i;
+      initial = sym (field-first (stateWidth * a .i) l) i;
+      label = ap₂ (λ (x y : ℕ). x + 256 * y) (sym (getD-drop (stateWidth * a .i) l 1 0)) (sym (getD-drop (stateWidth * a .i) l 2 0)) i;
     }
 
+cut-state-requires : tie.Need-cut-state-requires
+cut-state-requires c κs = search needs
+
 returns : tie.Need-returns
-returns c =
-    let a = c .before .before .args in
-    ap stateOf (sym (past 3 (a .i) (now (a .section)) (omega arith)))
+returns c = search needs
 
 mul-at : tie.Need-mul-at
 mul-at c = search needs
 
-add-byte-at : tie.Need-add-byte-at
-add-byte-at c = search needs
+add-low : tie.Need-add-low
+add-low c = search needs
 
-byte-at-requires : tie.Need-byte-at-requires
-byte-at-requires c κs = search needs
+shared-slice-read-low : tie.Need-shared-slice-read-low
+shared-slice-read-low c = search needs
 
-add-byte-at-2 : tie.Need-add-byte-at-2
-add-byte-at-2 c = search needs
+cast-low : tie.Need-cast-low
+cast-low c = omega (arith, c .shared-slice-known2 .given (stateWidth * c .before .before .before .args .i + 1))
 
-byte-at-requires-2 : tie.Need-byte-at-requires-2
-byte-at-requires-2 c κs = search needs
+add-high : tie.Need-add-high
+add-high c = search needs
 
-byte-at-requires-3 : tie.Need-byte-at-requires-3
-byte-at-requires-3 c κs = search needs
+shared-slice-read-high : tie.Need-shared-slice-read-high
+shared-slice-read-high c = search needs
+
+cast-high : tie.Need-cast-high
+cast-high c = omega (arith, c .shared-slice-known3 .given (stateWidth * c .before .before .before .before .args .i + 2))
+
+shared-slice-read-t10 : tie.Need-shared-slice-read-t10
+shared-slice-read-t10 c = search needs
+
+cast-t6 : tie.Need-cast-t6
+cast-t6 c = omega (arith, c .shared-slice-known4 .given (stateWidth * c .before .before .before .before .before .args .i))
 
 mul-t7 : tie.Need-mul-t7
-mul-t7 c = omega (arith, c .before .byte-at2 .ensures, c .before .before .before .before .shared-slice-known .given (stateWidth * c .before .before .before .before .before .args .i + 2))
+mul-t7 c = omega (arith, c .shared-slice-known4 .given (stateWidth * c .before .before .before .before .before .args .i + 2))
 
-add-t9 : tie.Need-add-t9
-add-t9 c = omega (arith, c .before .byte-at2 .ensures, c .before .before .byte-at .ensures, c .before .before .before .before .shared-slice-known .given (stateWidth * c .before .before .before .before .before .args .i + 2), c .before .before .before .before .shared-slice-known .given (stateWidth * c .before .before .before .before .before .args .i + 1))
+add-t13 : tie.Need-add-t13
+add-t13 c = omega (arith, c .shared-slice-known4 .given (stateWidth * c .before .before .before .before .before .args .i + 1), c .shared-slice-known4 .given (stateWidth * c .before .before .before .before .before .args .i + 2))
 
 pub state-at-spec : {M : Type 1} → statement M
 state-at-spec =
     tie.close
     (tie.spec
+    cut-state-requires
     returns
     mul-at
-    add-byte-at
-    byte-at-requires
-    add-byte-at-2
-    byte-at-requires-2
-    byte-at-requires-3
+    add-low
+    shared-slice-read-low
+    cast-low
+    add-high
+    shared-slice-read-high
+    cast-high
+    shared-slice-read-t10
+    cast-t6
     mul-t7
-    add-t9
+    add-t13
     returns-2)

@@ -1,41 +1,55 @@
--- `step_at` meets its contract, field by field.
-use mathlib.Core.Path.{sym, ap, _∙_}
-use Prim.Native.Nat.{_*_}
+-- `step_at` meets its contract: a whole record is at its place.
+use mathlib.Core.Path.{sym}
+use Prim.Native.Nat.{_+_, _*_}
 use native.Mathlib.Omega.{arith}
 use lib.Seq.{getD-drop}
 use denote.Ref.{now}
-use Rattle.table.specs.Table.{stepOf, stepWidth}
-use Rattle.table.proofs.Records.{field-first, past}
+use Rattle.table.specs.Table.{stepWidth}
+use Rattle.table.proofs.Records.{field-first}
 use borrow.Author.Needs.{needs}
 use Rattle.table.proofs.record.step_at.Statement.{statement}
 use Rattle.table.proofs.record.step_at.Tie as tie
-
-returns : tie.Need-returns
-returns c =
-    let a = c .before .before .args in
-    ap stepOf (sym (past 2 (a .i) (now (a .section)) (omega arith)))
-
-mul-at : tie.Need-mul-at
-mul-at c = search needs
-
-byte-at-requires : tie.Need-byte-at-requires
-byte-at-requires c κs = search needs
-
-add-byte-at : tie.Need-add-byte-at
-add-byte-at c = search needs
-
-byte-at-requires-2 : tie.Need-byte-at-requires-2
-byte-at-requires-2 c κs = search needs
 
 returns-2 : tie.Need-returns-2
 returns-2 c =
     let a = c .before .before .before .before .args in
     let l = now (a .section) in
-    λ i. record {
-      from = (c .before .byte-at .ensures ∙ sym (field-first (stepWidth * a .i) l)) i;
-      to = (c .byte-at2 .ensures ∙ sym (getD-drop (stepWidth * a .i) l 1 0)) i;
-    }
+    λ i. record { from = sym (field-first (stepWidth * a .i) l) i; to = sym (getD-drop (stepWidth * a .i) l 1 0) i }
+
+cut-step-requires : tie.Need-cut-step-requires
+cut-step-requires c κs = search needs
+
+returns : tie.Need-returns
+returns c = search needs
+
+mul-at : tie.Need-mul-at
+mul-at c = search needs
+
+shared-slice-read-t8 : tie.Need-shared-slice-read-t8
+shared-slice-read-t8 c = search needs
+
+cast-t4 : tie.Need-cast-t4
+cast-t4 c = omega (arith, c .shared-slice-known2 .given (stepWidth * c .before .before .before .args .i))
+
+add-t5 : tie.Need-add-t5
+add-t5 c = search needs
+
+shared-slice-read-t10 : tie.Need-shared-slice-read-t10
+shared-slice-read-t10 c = search needs
+
+cast-t11 : tie.Need-cast-t11
+cast-t11 c = omega (arith, c .shared-slice-known3 .given (stepWidth * c .before .before .before .before .args .i + 1))
 
 pub step-at-spec : {M : Type 1} → statement M
 step-at-spec =
-    tie.close (tie.spec returns mul-at byte-at-requires add-byte-at byte-at-requires-2 returns-2)
+    tie.close
+    (tie.spec
+    cut-step-requires
+    returns
+    mul-at
+    shared-slice-read-t8
+    cast-t4
+    add-t5
+    shared-slice-read-t10
+    cast-t11
+    returns-2)
