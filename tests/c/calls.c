@@ -280,6 +280,15 @@ static void repairs(void)
         const uint8_t release[18] = {1, 1, 3, 2, 1, label, 0, 0, 0, 2, 0, 0, 2, 1, 0, 8, 0, 1};
         repairs_at("repair a release", release, 18, 0, label < 2 ? stopped(14, 0, 9) : found(0, loop, 1, 9));
     }
+    /* p0 until p1, and p1 eventually or always, there: all say p1. Kinds 12 to 15 have a variable less for each level and state. */
+    for (uint8_t label = 0; label < 4; label++) {
+        for (uint8_t kind = 10; kind < 16; kind++) {
+            const uint8_t a = kind < 12 ? 0 : 1, b = kind < 12 ? 1 : 0;
+            const uint8_t rule[18] = {1, 1, 3, 2, 1, label, 0, 0, 0, 2, 0, 0, 2, 1, 0, kind, a, b};
+            const size_t v = kind < 12 ? 9 : 8;
+            repairs_at("repair a fixed point", rule, 18, 0, label < 2 ? stopped(14, 0, v) : found(0, loop, 1, v));
+        }
+    }
     repairs_at("repair with two initial states", starts, 17, 0, found(0, first, 2, 6));
     repairs_at("repair a dead end", dead_end, 15, 0, stopped(14, 0, 5));
     repairs_at("repair with no step", no_step, 10, 0, stopped(14, 0, 2));
@@ -418,7 +427,8 @@ static void repair_refusals(void)
     repair_changed("repair a step from nowhere", 13, 3, 6);
     repair_changed("repair a step to nowhere", 20, 3, 6);
     repair_changed("repair a step given twice", 18, 0, 7);
-    repair_changed("repair kind 10", 21, 10, 8);
+    repair_changed("repair kind 16", 27, 16, 8);
+    repair_changed("repair kind 14 with a second child", 33, 14, 8);
     repair_changed("repair a child not lower", 31, 3, 8);
 }
 

@@ -1,5 +1,5 @@
 // Repair a second time, in the plain way: the net as explicit clauses, and the search over them with a counter for each clause and a trail
-// to undo. Written from the scope's text; it has nothing of the library.
+// to undo. Written from the scope's text and A1 of document 02; it has nothing of the library.
 #![allow(dead_code)]
 
 // A literal is twice its variable's number, and one more where it is the opposite. Steps are the first variables.
@@ -43,13 +43,21 @@ impl Net {
         steps.out.iter().map(|out| self.gate(every, &out.iter().map(|&j| gates[j]).collect::<Vec<_>>())).collect()
     }
 
-    // Levels 0 to n of kinds 8 and 9.
-    fn release(&mut self, every: bool, steps: &Steps, a: &[Literal], b: &[Literal]) -> Vec<Literal> {
-        let mut level: Vec<Literal> = b.iter().map(|&x| self.gate(true, &[x])).collect();
-        for _ in 0..b.len() {
-            let next = self.next(every, steps, &level);
-            let either: Vec<Literal> = (0..b.len()).map(|s| self.gate(false, &[a[s], next[s]])).collect();
-            level = (0..b.len()).map(|s| self.gate(true, &[b[s], either[s]])).collect();
+    // For each state a gate over what the two rows have there.
+    fn join(&mut self, all: bool, x: &[Literal], y: &[Literal]) -> Vec<Literal> {
+        x.iter().zip(y).map(|(&l, &m)| self.gate(all, &[l, m])).collect()
+    }
+
+    // Levels 0 to n of kinds 8 to 15, the even ones over every step. Level 0 has b alone, or a where there is no b. Each later level is an AND of
+    // that and the rest for release and always, an OR for until and eventually.
+    fn levels(&mut self, kind: u8, steps: &Steps, a: &[Literal], b: &[Literal]) -> Vec<Literal> {
+        let (two, all) = (kind < 12, [8, 9, 14, 15].contains(&kind));
+        let alone = if two { b } else { a };
+        let mut level: Vec<Literal> = alone.iter().map(|&x| self.gate(true, &[x])).collect();
+        for _ in 0..alone.len() {
+            let next = self.next(kind % 2 == 0, steps, &level);
+            let rest = if two { self.join(!all, a, &next) } else { next };
+            level = self.join(all, alone, &rest);
         }
         level
     }
@@ -79,7 +87,8 @@ pub fn net(table: &[u8]) -> Net {
             4 | 5 if a == b => (0..n).map(|s| net.gate(kind == 4, &[x[a][s]])).collect(),
             4 | 5 => (0..n).map(|s| net.gate(kind == 4, &[x[a][s], x[b][s]])).collect(),
             6 | 7 => net.next(kind == 6, &steps, &x[a]),
-            _ => net.release(kind == 8, &steps, &x[a], &x[b]),
+            // kinds 12 to 15 have b = 0, and no use for it
+            _ => net.levels(kind, &steps, &x[a], &x[b]),
         };
         x.push(row);
     }

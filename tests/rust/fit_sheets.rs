@@ -1,4 +1,4 @@
-// Runs the program fit on every vector of tests/data/sheets.tsv, on every example, and on inputs at the limits of reading, and compares what it
+// Runs the program fit on every vector of the files of sheets, on every example, and on inputs at the limits of reading, and compares what it
 // prints byte by byte. A vector: the text and the program's output in hex, `-` for no bytes.
 use std::io::{Read, Write};
 use std::process::{Command, Stdio};
@@ -92,15 +92,17 @@ fn run_limits(t: &mut Tally, sheet: &[u8], output: &[u8]) {
 
 fn main() {
     let args: Vec<String> = std::env::args().collect();
-    let [_, program, vectors, examples] = &args[..] else { panic!("fit_sheets PROGRAM VECTORS EXAMPLES") };
+    let [_, program, examples, files @ ..] = &args[..] else { panic!("fit_sheets PROGRAM EXAMPLES VECTORS..") };
     let mut t = Tally { program: program.clone(), runs: 0, agreed: 0 };
     let mut failed = false;
-    let text = std::fs::read_to_string(vectors).expect("the vectors");
-    for (k, line) in text.lines().enumerate().skip(1) {
-        let columns: Vec<&str> = line.split('\t').collect();
-        t.check(&format!("{vectors}:{}", k + 1), &[&unhex(columns[0])], &unhex(columns[2]));
+    for file in files {
+        let text = std::fs::read_to_string(file).expect("the vectors");
+        for (k, line) in text.lines().enumerate().skip(1) {
+            let columns: Vec<&str> = line.split('\t').collect();
+            t.check(&format!("{file}:{}", k + 1), &[&unhex(columns[0])], &unhex(columns[2]));
+        }
+        t.report(file, &mut failed);
     }
-    t.report("vectors", &mut failed);
     for entry in std::fs::read_dir(examples).expect("the examples") {
         let path = entry.expect("an example").path();
         if path.extension().is_some_and(|x| x == "sheet") {

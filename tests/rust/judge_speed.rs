@@ -1,4 +1,4 @@
-// Measures Judge on largest tables against the same algorithm in plain Rust, in one run.
+// Measures Judge on largest tables against the same algorithm in plain Rust, in one run: with releases alone, then with all fixed points.
 mod fitter;
 mod sequence;
 
@@ -46,8 +46,8 @@ mod plain {
             let fits = match x[0] {
                 0 | 1 => a == 0 && b == 0,
                 2 => a < p && b == 0,
-                3 | 6 | 7 => a < i && b == 0,
-                4 | 5 | 8 | 9 => a < i && b < i,
+                3 | 6 | 7 | 12..=15 => a < i && b == 0,
+                4 | 5 | 8..=11 => a < i && b < i,
                 _ => false,
             };
             if !fits {
@@ -66,10 +66,11 @@ mod plain {
         states
     }
 
-    fn release(every: bool, rows: &[u32; 32], n: usize, a: u32, b: u32) -> u32 {
-        let mut level = b;
+    // Levels from this one on: each is made of the next states of the one before.
+    fn levels(every: bool, rows: &[u32; 32], n: usize, first: u32, above: impl Fn(u32) -> u32) -> u32 {
+        let mut level = first;
         for _ in 0..n {
-            let above = b & (a | next(every, rows, n, level));
+            let above = above(next(every, rows, n, level));
             if above == level {
                 break;
             }
@@ -102,16 +103,18 @@ mod plain {
         let mut sets = [0u32; 32];
         for (i, x) in nodes.chunks(3).enumerate() {
             let (a, b) = (x[1] as usize, x[2] as usize);
+            let every = x[0] % 2 == 0;
             sets[i] = match x[0] {
                 1 => kept,
                 2 => kept & (0..n).filter(|&s| (states[3 * s + 1] as u32 + 256 * states[3 * s + 2] as u32) >> a & 1 == 1).fold(0, |k, s| k | 1 << s),
                 3 => kept & !sets[a],
                 4 => sets[a] & sets[b],
                 5 => sets[a] | sets[b],
-                6 => next(true, &rows, n, sets[a]),
-                7 => next(false, &rows, n, sets[a]),
-                8 => release(true, &rows, n, sets[a], sets[b]),
-                9 => release(false, &rows, n, sets[a], sets[b]),
+                6 | 7 => next(every, &rows, n, sets[a]),
+                8 | 9 => levels(every, &rows, n, sets[b], |next| sets[b] & (sets[a] | next)),
+                10 | 11 => levels(every, &rows, n, sets[b], |next| sets[b] | sets[a] & next),
+                12 | 13 => levels(every, &rows, n, sets[a], |next| sets[a] | next),
+                14 | 15 => levels(every, &rows, n, sets[a], |next| sets[a] & next),
                 _ => 0,
             };
         }
@@ -126,8 +129,8 @@ mod plain {
     }
 }
 
-// 32 states, 128 steps, 32 nodes: four steps out of each state, and fixed-point nodes where they can stand.
-fn largest(random: &mut Random) -> (Vec<u8>, Vec<u8>) {
+// 32 states, 128 steps, 32 nodes: four steps out of each state, and fixed-point nodes where they can stand, of so many kinds from 8 on.
+fn largest(random: &mut Random, kinds: u64) -> (Vec<u8>, Vec<u8>) {
     let mut t = vec![32, 128, 32, 16];
     for s in 0..32 {
         t.extend([(s == 0) as u8, random.below(256) as u8, random.below(256) as u8]);
@@ -142,15 +145,16 @@ fn largest(random: &mut Random) -> (Vec<u8>, Vec<u8>) {
         if i < 4 {
             t.extend([2, random.below(16) as u8, 0]);
         } else {
-            t.extend([8 + random.below(2) as u8, random.below(i) as u8, random.below(i) as u8]);
+            let (kind, a, b) = (8 + random.below(kinds) as u8, random.below(i) as u8, random.below(i) as u8);
+            t.extend([kind, a, if kind < 12 { b } else { 0 }]);
         }
     }
     (t, vec![1; 128])
 }
 
-fn main() {
+fn measure(name: &str, kinds: u64) {
     let mut random = Random(1);
-    let inputs: Vec<(Vec<u8>, Vec<u8>)> = (0..200).map(|_| largest(&mut random)).collect();
+    let inputs: Vec<(Vec<u8>, Vec<u8>)> = (0..200).map(|_| largest(&mut random, kinds)).collect();
     for (t, l) in &inputs {
         assert_eq!(fitter::judge(t, l), plain::judge(t, l), "judges differ");
     }
@@ -168,5 +172,10 @@ fn main() {
             best[k] = best[k].min(start.elapsed().as_secs_f64() / (20.0 * inputs.len() as f64) * 1e6);
         }
     }
-    println!("judge, largest tables: {:.2} us a call; plain Rust {:.2} us; ratio {:.2}", best[0], best[1], best[0] / best[1]);
+    println!("judge, {name}: {:.2} us a call; plain Rust {:.2} us; ratio {:.2}", best[0], best[1], best[0] / best[1]);
+}
+
+fn main() {
+    measure("largest tables", 2);
+    measure("largest tables, all fixed points", 8);
 }

@@ -51,5 +51,5 @@ fn line_agrees(columns: &[String]) -> bool {
 }
 
 fn main() {
-    vectors::run("lists", 4872, line_agrees)
+    vectors::run("lists", line_agrees)
 }

@@ -1,4 +1,5 @@
-// Compares all five calls of the library with a second reading of the scope's text, on drawn and damaged input, for some seconds.
+// Compares all five calls of the library with a second reading of the scope's text and A1 of document 02, on drawn and damaged input, for some
+// seconds.
 // Arguments: seed (1), seconds (10). Prints how many calls agree, by kind and number; at the first difference its input, and ends with 1.
 mod clauses;
 mod fitter;

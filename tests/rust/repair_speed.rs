@@ -32,24 +32,31 @@ impl Rule {
     }
 }
 
-// Nodes of any kind over any lower nodes.
-fn any_kinds(random: &mut Random, nodes: u64, props: u64) -> Rule {
+// Nodes of the kinds from the first to the last, over any lower nodes.
+fn nodes_of(random: &mut Random, kinds: (u64, u64), nodes: u64, props: u64) -> Rule {
     let mut rule = Rule::leaves(props);
     while rule.len() < nodes {
-        let (kind, a, b) = (3 + random.below(7), random.below(rule.len()), random.below(rule.len()));
-        rule.add(kind, a, if [3, 6, 7].contains(&kind) { 0 } else { b });
+        let (kind, a, b) = (random.between(kinds), random.below(rule.len()), random.below(rule.len()));
+        rule.add(kind, a, if [3, 6, 7, 12, 13, 14, 15].contains(&kind) { 0 } else { b });
     }
     rule
 }
 
-// Fixed points over any lower nodes.
+// All kinds but until, eventually and always.
+fn any_kinds(random: &mut Random, nodes: u64, props: u64) -> Rule {
+    nodes_of(random, (3, 9), nodes, props)
+}
+
+fn releases(random: &mut Random, nodes: u64, props: u64) -> Rule {
+    nodes_of(random, (8, 9), nodes, props)
+}
+
+fn all_kinds(random: &mut Random, nodes: u64, props: u64) -> Rule {
+    nodes_of(random, (3, 15), nodes, props)
+}
+
 fn fixed_points(random: &mut Random, nodes: u64, props: u64) -> Rule {
-    let mut rule = Rule::leaves(props);
-    while rule.len() < nodes {
-        let (kind, a, b) = (8 + random.below(2), random.below(rule.len()), random.below(rule.len()));
-        rule.add(kind, a, b);
-    }
-    rule
+    nodes_of(random, (8, 15), nodes, props)
 }
 
 // One usual demand on propositions a and b, in four nodes. Node 0 is false, so 8 0 x is "always x on all paths".
@@ -80,19 +87,50 @@ fn usual(rule: &mut Rule, which: u64, a: u64, b: u64) -> u64 {
     rule.add(8, 0, inner)
 }
 
-// Several usual demands at once, each over the and of those before it.
-fn usual_demands(random: &mut Random, nodes: u64, props: u64) -> Rule {
+// One usual demand with until, eventually and always, in four nodes at most.
+fn short(rule: &mut Rule, which: u64, a: u64, b: u64) -> u64 {
+    let inner = match which {
+        // a until b, on all paths or on some
+        0 | 1 => return rule.add(10 + which, a, b),
+        // a comes again and again; a stays within reach
+        2 | 3 => rule.add(10 + which, a, 0),
+        // after a, b can follow; after a, b comes; from a on, b can go on for ever; from a on, a until b
+        _ => {
+            let not_a = rule.add(3, a, 0);
+            let then = match which {
+                4 => rule.add(7, b, 0),
+                5 => rule.add(12, b, 0),
+                6 => rule.add(15, b, 0),
+                _ => rule.add(10, a, b),
+            };
+            rule.add(5, not_a, then)
+        }
+    };
+    rule.add(14, inner, 0)
+}
+
+// Several demands of these sorts at once, each over the and of those before it.
+fn demands(random: &mut Random, sorts: u64, demand: fn(&mut Rule, u64, u64, u64) -> u64, nodes: u64, props: u64) -> Rule {
     let mut rule = Rule::leaves(props);
-    let mut root = 0;
-    for k in 0..(nodes - rule.len() + 1) / 5 {
-        let (which, a, b) = (random.below(6), 1 + random.below(props), 1 + random.below(props));
-        let demand = usual(&mut rule, which, a, b);
-        root = if k == 0 { demand } else { rule.add(4, root, demand) };
+    let mut root = None;
+    while rule.len() + 4 + root.is_some() as u64 <= nodes {
+        let (which, a, b) = (random.below(sorts), 1 + random.below(props), 1 + random.below(props));
+        let new = demand(&mut rule, which, a, b);
+        root = Some(root.map_or(new, |other| rule.add(4, other, new)));
     }
+    let mut root = root.unwrap_or(0);
     while rule.len() < nodes {
         root = rule.add(4, root, root);
     }
     rule
+}
+
+fn usual_demands(random: &mut Random, nodes: u64, props: u64) -> Rule {
+    demands(random, 6, usual, nodes, props)
+}
+
+fn short_demands(random: &mut Random, nodes: u64, props: u64) -> Rule {
+    demands(random, 8, short, nodes, props)
 }
 
 // From how many to how many.
@@ -104,6 +142,7 @@ struct Size {
 }
 
 const SMALL: Size = Size { states: (2, 6), steps: (4, 16), nodes: (8, 14), props: 2 };
+const TO_MIDDLE: Size = Size { states: (2, 16), steps: (4, 50), nodes: (8, 24), props: 3 };
 const MIDDLE: Size = Size { states: (10, 16), steps: (30, 50), nodes: (14, 24), props: 3 };
 const SPARSE: Size = Size { states: (32, 32), steps: (40, 70), nodes: (32, 32), props: 3 };
 const LARGE: Size = Size { states: (32, 32), steps: (128, 128), nodes: (32, 32), props: 3 };
@@ -124,8 +163,14 @@ fn steps(random: &mut Random, n: u64, e: u64) -> Vec<[u8; 2]> {
     steps
 }
 
+// Draws a rule of so many nodes over so many propositions.
+type Draw = fn(&mut Random, u64, u64) -> Rule;
+
+const BASE: [Draw; 3] = [any_kinds, usual_demands, releases];
+const ALL: [Draw; 3] = [all_kinds, short_demands, fixed_points];
+
 // The table of a seed; the seed also says which of the three sorts of rule it has.
-fn table(size: &Size, seed: u64) -> Vec<u8> {
+fn table(size: &Size, rules: [Draw; 3], seed: u64) -> Vec<u8> {
     let mut random = Random::new(seed);
     let n = random.between(size.states);
     let e = random.between(size.steps).min(n * n);
@@ -136,28 +181,36 @@ fn table(size: &Size, seed: u64) -> Vec<u8> {
         t.extend([(s < initial) as u8, random.below(1 << size.props) as u8, 0]);
     }
     t.extend(steps(&mut random, n, e).concat());
-    let rule = [any_kinds, usual_demands, fixed_points][seed as usize % 3](&mut random, f, size.props);
+    let rule = rules[seed as usize % 3](&mut random, f, size.props);
     t.extend(rule.0);
     t
 }
 
 fn small(seed: u64) -> Vec<u8> {
-    table(&SMALL, seed)
+    table(&SMALL, BASE, seed)
 }
 
 fn middle(seed: u64) -> Vec<u8> {
-    table(&MIDDLE, seed)
+    table(&MIDDLE, BASE, seed)
 }
 
 fn sparse(seed: u64) -> Vec<u8> {
-    table(&SPARSE, seed)
+    table(&SPARSE, BASE, seed)
 }
 
 fn large(seed: u64) -> Vec<u8> {
-    table(&LARGE, seed)
+    table(&LARGE, BASE, seed)
 }
 
-// The largest net there is: one proposition, and fixed points in all other nodes.
+fn all_to_middle(seed: u64) -> Vec<u8> {
+    table(&TO_MIDDLE, ALL, seed)
+}
+
+fn all_large(seed: u64) -> Vec<u8> {
+    table(&LARGE, ALL, seed)
+}
+
+// The largest net there is: one proposition, and releases in all other nodes.
 fn largest(seed: u64) -> Vec<u8> {
     let mut random = Random::new(seed);
     let mut t = vec![32, 128, 32, 1];
@@ -236,6 +289,11 @@ fn groups() -> Vec<Group> {
         group("large, fixed points, a hundred", large, &[8, 11, 20, 23, 29, 35], u64::MAX),
         group("largest net, a hundred", largest, &[0, 1, 2, 3], u64::MAX),
         group("large, thousands", large, &[13, 14, 19, 22, 105, 116, 144, 167, 177], 2000),
+        group("all kinds, small to middle", all_to_middle, &[
+            0, 1, 3, 7, 8, 9, 10, 12, 14, 16, 17, 20, 21, 22, 27, 28, 29, 31, 34, 36, 37, 38, 39, 40, 42, 43, 46, 49, 53, 55, 56, 57, 65, 67, 68, 69,
+            71, 72, 75, 76, 77, 80, 82, 84, 85, 89, 91, 92, 93, 94, 95, 100, 101, 102, 103, 105, 106, 110, 112, 114,
+        ], u64::MAX),
+        group("all kinds, large", all_large, &[0, 2, 4, 5, 7, 8, 9, 12, 15, 17, 19, 20, 21, 24, 25, 26, 27, 28], u64::MAX),
     ]
 }
 

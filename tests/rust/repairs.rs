@@ -124,5 +124,5 @@ fn line_agrees(columns: &[String]) -> bool {
 }
 
 fn main() {
-    vectors::run("repairs", 3843, line_agrees)
+    vectors::run("repairs", line_agrees)
 }

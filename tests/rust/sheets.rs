@@ -61,5 +61,5 @@ fn line_agrees(columns: &[String]) -> bool {
 }
 
 fn main() {
-    vectors::run("sheets", 540, line_agrees)
+    vectors::run("sheets", line_agrees)
 }

@@ -1,6 +1,6 @@
 // Makes all five calls from several threads at once, each on tables and texts of its own, and compares with the answers of one thread.
 //
-// Called with tests/data/tables.tsv and tests/data/sheets.tsv.
+// Called with a file of tables, a file of sheets, and how many tables there are.
 mod fitter;
 mod vectors;
 
@@ -86,5 +86,5 @@ fn main() {
         threads.into_iter().map(|t| t.join().expect("a thread's count")).sum()
     });
     println!("threads: {} at once, {} rounds of {} tables, {} differ", THREADS, ROUNDS, cases.len(), differ);
-    std::process::exit(if cases.len() == 3843 && differ == 0 { 0 } else { 1 });
+    std::process::exit(if cases.len() == vectors::wanted(3) && differ == 0 { 0 } else { 1 });
 }

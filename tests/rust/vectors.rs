@@ -27,10 +27,16 @@ pub fn number(column: &str) -> u32 {
     column.parse().expect("a number")
 }
 
+// How many vectors there are to be, the argument at this place.
+pub fn wanted(place: usize) -> usize {
+    std::env::args().nth(place).expect("how many vectors").parse().expect("a number")
+}
+
 // Runs every line of the file that the program is called with, names those that differ, and ends the program: well where there are as many
-// as wanted and all agree.
-pub fn run(name: &str, wanted: usize, agrees: fn(&[String]) -> bool) -> ! {
+// as the call says and all agree.
+pub fn run(name: &str, agrees: fn(&[String]) -> bool) -> ! {
     let lines = read(&std::env::args().nth(1).expect("the file of vectors"));
+    let wanted = wanted(2);
     let mut agreed = 0;
     for (k, columns) in lines.iter().enumerate() {
         if agrees(columns) {

@@ -9,13 +9,16 @@ use lib.Dec.{eqb, eqb·suc-suc, eqb·zero-suc, eqb·suc-zero}
 use lib.ListN.{length, getD, length-append, length-map}
 use Rattle.table.specs.declared.record.Node.{Node}
 use Rattle.table.specs.declared.record.Step.{Step}
+use Rattle.table.specs.declared.family.Family.{Family}
+use Rattle.table.specs.declared.family.Family.the-variants.{Release, Until, Eventually, Always}
 use Rattle.table.specs.Table.{Table, zeroStep, zeroNode, nodeAt}
 use Rattle.table.specs.Facts.{Wellformed}
-use Rattle.ctl.specs.Rule.{Operator, constant, atom, negation, conjunction, disjunction, next, release, operatorOf}
+use Rattle.ctl.specs.Rule.{Operator, constant, atom, negation, conjunction, disjunction, next, fixpoint, operatorOf}
 use Rattle.ctl.specs.Levels.{tabulate, below}
 use Rattle.ctl.proofs.Tabulate.{length-tabulate}
 use Rattle.ctl.proofs.BottomUp.{Below, children-below}
-use Rattle.circuit.specs.Variables.{Var, step, kept, node, edge, level, concat, outOf, stepsOut, nodeVariables, variables, variableCount, costOf, costs, variableFormula}
+use Rattle.circuit.specs.Variables.{Var, step, kept, node, edge, level, concat, outOf, stepsOut, ownVariables, ownCount, nodeVariables, variables, variableCount, costOf, costs, variableFormula}
+use Rattle.circuit.proofs.Cost.{own-few}
 
 -- ---- sums
 
@@ -97,6 +100,13 @@ module _ (T : Table) (wf : Wellformed T) where
       ∙ sum-add (length (T .states)) _ _
       ∙ ap₂ _+_ steps-out-count (sum-constant (length (T .states)) c)
 
+  -- N, G where there is one, and the level
+  own-size : (f : Family) (i m s : ℕ) → length (ownVariables f i m s) ≡ ownCount f
+  own-size Release i m s = refl
+  own-size Until i m s = refl
+  own-size Eventually i m s = refl
+  own-size Always i m s = refl
+
   -- a node has as many variables as it costs
   node-count : (i : ℕ) (o : Operator) → length (nodeVariables T i o) ≡ costOf (length (T .states)) (length (T .steps)) o
   unfolding nodeVariables
@@ -106,13 +116,13 @@ module _ (T : Table) (wf : Wellformed T) where
   node-count i (conjunction a b) = one-each (length (T .states)) (node i)
   node-count i (disjunction a b) = one-each (length (T .states)) (node i)
   node-count i (next q a) = level-count (edge i 0) 1 _ (λ s. refl) ∙ ap (λ (k : ℕ). length (T .steps) + k) (mul-one _)
-  node-count i (release q a b) =
+  node-count i (fixpoint f q a b) =
       length-append (map (level i 0) (below (length (T .states)))) _
       ∙ ap₂ _+_ (one-each (length (T .states)) (level i 0)) (
       length-concat (length (T .states)) _ _
-      ∙ sum-cong (length (T .states)) _ _ (λ m h. level-count (edge i (suc m)) 3 _ (λ s. refl))
+      ∙ sum-cong (length (T .states)) _ _ (λ m h. level-count (edge i (suc m)) (ownCount f) _ (own-size f i (suc m)))
       ∙ sum-constant (length (T .states)) _
-      ∙ ap (λ (k : ℕ). length (T .states) * (length (T .steps) + k)) (mul-comm (length (T .states)) 3))
+      ∙ ap (λ (k : ℕ). length (T .states) * (length (T .steps) + k)) (mul-comm (length (T .states)) (ownCount f)))
 
 -- the costs of the nodes add up
 costs-sum : (n e : ℕ) (xs : List Node) → sum (length xs) (λ i. costOf n e (operatorOf (getD xs i zeroNode))) ≡ costs n e xs
@@ -141,8 +151,9 @@ cost-most n e few-n few-e (negation a) = omega arith
 cost-most n e few-n few-e (conjunction a b) = omega arith
 cost-most n e few-n few-e (disjunction a b) = omega arith
 cost-most n e few-n few-e (next q a) = omega arith
-cost-most n e few-n few-e (release q a b) =
-    let h : n * (e + 3 * n) ≤ 32 * 224 = mul-le-mul {m₂ = 224} few-n (omega arith) in
+cost-most n e few-n few-e (fixpoint f q a b) =
+    let own : ownCount f * n ≤ 3 * 32 = mul-le-mul (own-few f) few-n in
+    let h : n * (e + ownCount f * n) ≤ 32 * 224 = mul-le-mul {m₂ = 224} few-n (omega arith) in
     omega arith
 
 costs-most : (n e : ℕ) → n ≤ 32 → e ≤ 128 → (xs : List Node) → costs n e xs ≤ length xs * 7200
@@ -158,7 +169,7 @@ leaf-cost n e (negation a) h = omega arith
 leaf-cost n e (conjunction a b) h = omega arith
 leaf-cost n e (disjunction a b) h = omega arith
 leaf-cost n e (next q a) h = absurd (not-suc-le-zero h)
-leaf-cost n e (release q a b) h = absurd (not-suc-le-zero (h .0))
+leaf-cost n e (fixpoint f q a b) h = absurd (not-suc-le-zero (h .0))
 
 first-cost : (n e : ℕ) → n ≤ 32 → e ≤ 128 → (xs : List Node) → length xs ≤ 32 → 1 ≤ length xs → Below 0 (operatorOf (getD xs 0 zeroNode))
     → costs n e xs ≤ 223232

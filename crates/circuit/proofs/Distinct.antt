@@ -4,10 +4,12 @@ use native.Mathlib.Omega.{arith}
 use mathlib.Core.Path.{_≡_, refl, ap, _∙_}
 use mathlib.Core.List.{List, [], _∷_, _++_, map, List·Memᴰ·not-nil}
 use lib.ListN.{length, getD, length-map, List·getD-append, List·getD-map}
+use Rattle.table.specs.declared.family.Family.{Family}
+use Rattle.table.specs.declared.family.Family.the-variants.{Release, Until, Eventually, Always}
 use Rattle.table.specs.Table.{Table, nodeAt, stepAt}
-use Rattle.ctl.specs.Rule.{Operator, constant, atom, negation, conjunction, disjunction, next, release, operatorOf}
+use Rattle.ctl.specs.Rule.{Operator, constant, atom, negation, conjunction, disjunction, next, fixpoint, operatorOf}
 use Rattle.ctl.proofs.Tabulate.{length-tabulate, getD-tabulate}
-use Rattle.circuit.specs.Variables.{Var, step, kept, node, edge, ahead, either, level, concat, stepsOut, levelVariables, nodeVariables, variables, variableCount}
+use Rattle.circuit.specs.Variables.{Var, step, kept, node, edge, ahead, inner, level, concat, stepsOut, ownVariables, levelVariables, nodeVariables, variables, variableCount}
 use Rattle.circuit.specs.Gates.{gates}
 use Rattle.circuit.proofs.Lists.{Each, each-more, each-one, each-append, each-map, each-over, in-out}
 use Rattle.circuit.proofs.NoRepeat.{NoRepeat, no-repeat-at, no-repeat-append, no-repeat-map, no-repeat-each, no-repeat-over, no-repeat-out}
@@ -23,7 +25,7 @@ kindOf (kept s) = 1
 kindOf (node i s) = 2
 kindOf (edge i m j) = 3
 kindOf (ahead i m s) = 4
-kindOf (either i m s) = 5
+kindOf (inner i m s) = 5
 kindOf (level i m s) = 6
 
 -- its node
@@ -33,7 +35,7 @@ nodeOf (kept s) = 0
 nodeOf (node i s) = i
 nodeOf (edge i m j) = i
 nodeOf (ahead i m s) = i
-nodeOf (either i m s) = i
+nodeOf (inner i m s) = i
 nodeOf (level i m s) = i
 
 -- its level
@@ -43,7 +45,7 @@ levelOf (kept s) = 0
 levelOf (node i s) = 0
 levelOf (edge i m j) = m
 levelOf (ahead i m s) = m
-levelOf (either i m s) = m
+levelOf (inner i m s) = m
 levelOf (level i m s) = m
 
 -- its state: of a step, the state that it leaves
@@ -53,7 +55,7 @@ stateOf T (kept s) = s
 stateOf T (node i s) = s
 stateOf T (edge i m j) = stepAt T j .from
 stateOf T (ahead i m s) = s
-stateOf T (either i m s) = s
+stateOf T (inner i m s) = s
 stateOf T (level i m s) = s
 
 -- v is of node i and of level m
@@ -83,29 +85,44 @@ module _ (T : Table) where
   states-distinct i m rest n kinds keys = no-repeat-over (length (T .states)) (stateOf T) _
       (λ s. state-distinct i m s (rest s) (n s) (kinds s)) (λ s. state-key i m s (rest s) (keys s))
 
-  -- N, G and the level of one state
-  three-distinct : (i m s : ℕ) → NoRepeat (ahead i m s ∷ either i m s ∷ level i m s ∷ [])
+  -- what holds of N, of G and of the level of one state holds of each of them that there is
+  own-each : (f : Family) (i m s : ℕ) (P : Var → Type 0) → P (ahead i m s) → P (inner i m s) → P (level i m s) → Each P (ownVariables f i m s)
+  own-each Release i m s P p q r = each-more _ _ _ p (each-more _ _ _ q (each-one _ _ r))
+  own-each Until i m s P p q r = each-more _ _ _ p (each-more _ _ _ q (each-one _ _ r))
+  own-each Eventually i m s P p q r = each-more _ _ _ p (each-one _ _ r)
+  own-each Always i m s P p q r = each-more _ _ _ p (each-one _ _ r)
+
+  three-distinct : (i m s : ℕ) → NoRepeat (ahead i m s ∷ inner i m s ∷ level i m s ∷ [])
   three-distinct i m s = (
     λ h. each-more (λ v. ¬ (kindOf v ≡ 4)) _ _ (omega arith) (each-one _ _ (omega arith)) (ahead i m s) h refl,
-    (λ h. each-one (λ v. ¬ (kindOf v ≡ 5)) _ (omega arith) (either i m s) h refl, (List·Memᴰ·not-nil, tt)),
+    (λ h. each-one (λ v. ¬ (kindOf v ≡ 5)) _ (omega arith) (inner i m s) h refl, (List·Memᴰ·not-nil, tt)),
   )
 
+  two-distinct : (i m s : ℕ) → NoRepeat (ahead i m s ∷ level i m s ∷ [])
+  two-distinct i m s = (λ h. each-one (λ v. ¬ (kindOf v ≡ 4)) _ (omega arith) (ahead i m s) h refl, (List·Memᴰ·not-nil, tt))
+
+  own-distinct : (f : Family) (i m s : ℕ) → NoRepeat (ownVariables f i m s)
+  own-distinct Release = three-distinct
+  own-distinct Until = three-distinct
+  own-distinct Eventually = two-distinct
+  own-distinct Always = two-distinct
+
   -- the variables of one level
-  level-distinct : (i m : ℕ) → NoRepeat (levelVariables T i m)
-  level-distinct i m = states-distinct i m _ (three-distinct i m)
-      (λ s. each-more _ _ _ (omega arith) (each-more _ _ _ (omega arith) (each-one _ _ (omega arith))))
-      (λ s. each-more _ _ _ refl (each-more _ _ _ refl (each-one _ _ refl)))
+  level-distinct : (f : Family) (i m : ℕ) → NoRepeat (levelVariables T f i m)
+  level-distinct f i m = states-distinct i m _ (own-distinct f i m)
+      (λ s. own-each f i m s _ (omega arith) (omega arith) (omega arith))
+      (λ s. own-each f i m s _ refl refl refl)
 
   -- each is of this level
-  level-key : (i m : ℕ) → Each (IsOf i m) (levelVariables T i m)
-  level-key i m = each-over (length (T .states)) _ _ (λ s h. each-append _ (map (edge i m) (stepsOut T s)) _
+  level-key : (f : Family) (i m : ℕ) → Each (IsOf i m) (levelVariables T f i m)
+  level-key f i m = each-over (length (T .states)) _ _ (λ s h. each-append _ (map (edge i m) (stepsOut T s)) _
       (each-map _ (edge i m) (stepsOut T s) (λ j h. (refl, refl, omega arith)))
-      (each-more _ _ _ (refl, refl, omega arith) (each-more _ _ _ (refl, refl, omega arith) (each-one _ _ (refl, refl, omega arith)))))
+      (own-each f i m s _ (refl, refl, omega arith) (refl, refl, omega arith) (refl, refl, omega arith)))
 
   -- the variables of a node are those of a kind without next states, of a kind with next states, or of levels
   node-cases : (i : ℕ) (P : List Var → Type 0) → P (map (node i) (below (length (T .states))))
       → P (concat (map (λ s. map (edge i 0) (stepsOut T s) ++ (node i s ∷ [])) (below (length (T .states)))))
-      → P (map (level i 0) (below (length (T .states))) ++ concat (map (λ m. levelVariables T i (suc m)) (below (length (T .states)))))
+      → ((f : Family) → P (map (level i 0) (below (length (T .states))) ++ concat (map (λ m. levelVariables T f i (suc m)) (below (length (T .states))))))
       → (o : Operator) → P (nodeVariables T i o)
   unfolding nodeVariables
   node-cases i P plain steps levels (constant b) = plain
@@ -114,19 +131,19 @@ module _ (T : Table) where
   node-cases i P plain steps levels (conjunction a b) = plain
   node-cases i P plain steps levels (disjunction a b) = plain
   node-cases i P plain steps levels (next q a) = steps
-  node-cases i P plain steps levels (release q a b) = levels
+  node-cases i P plain steps levels (fixpoint f q a b) = levels f
 
   -- the variables of one node
   node-distinct : (i : ℕ) (o : Operator) → NoRepeat (nodeVariables T i o)
   node-distinct i = node-cases i NoRepeat
       (no-repeat-each (length (T .states)) (node i) (λ s t e. cc))
       (states-distinct i 0 (λ s. node i s ∷ []) (λ s. (List·Memᴰ·not-nil, tt)) (λ s. each-one _ _ (omega arith)) (λ s. each-one _ _ refl))
-      (no-repeat-append (λ v. levelOf v ≡ 0) (map (level i 0) (below (length (T .states)))) _
+      (λ f. no-repeat-append (λ v. levelOf v ≡ 0) (map (level i 0) (below (length (T .states)))) _
       (no-repeat-each (length (T .states)) (level i 0) (λ s t e. cc))
       (no-repeat-over (length (T .states)) (λ v. pred (levelOf v)) _
-      (λ m. level-distinct i (suc m)) (λ m v h. ap pred (level-key i (suc m) v h .1)))
+      (λ m. level-distinct f i (suc m)) (λ m v h. ap pred (level-key f i (suc m) v h .1)))
       (each-map _ (level i 0) (below (length (T .states))) (λ s h. refl))
-      (each-over (length (T .states)) _ _ (λ m h v k e. omega (arith, level-key i (suc m) v k .1))))
+      (each-over (length (T .states)) _ _ (λ m h v k e. omega (arith, level-key f i (suc m) v k .1))))
 
   -- each variable of a node is of this node
   node-key : (i : ℕ) (o : Operator) → Each (λ v. (nodeOf v ≡ i) × (2 ≤ kindOf v)) (nodeVariables T i o)
@@ -134,9 +151,9 @@ module _ (T : Table) where
       (each-map _ (node i) (below (length (T .states))) (λ s h. (refl, omega arith)))
       (each-over (length (T .states)) _ _ (λ s h. each-append _ (map (edge i 0) (stepsOut T s)) _
       (each-map _ (edge i 0) (stepsOut T s) (λ j h. (refl, omega arith))) (each-one _ _ (refl, omega arith))))
-      (each-append _ (map (level i 0) (below (length (T .states)))) _
+      (λ f. each-append _ (map (level i 0) (below (length (T .states)))) _
       (each-map _ (level i 0) (below (length (T .states))) (λ s h. (refl, omega arith)))
-      (each-over (length (T .states)) _ _ (λ m h v k. let r = level-key i (suc m) v k in (r .0, r .2))))
+      (each-over (length (T .states)) _ _ (λ m h v k. let r = level-key f i (suc m) v k in (r .0, r .2))))
 
   -- no variable stands twice
   pub variables-no-repeat : NoRepeat (variables T)

@@ -6,19 +6,21 @@ use mathlib.Core.Bool.{Bool, true, false, not, _&&_, _||_, and-true, or-false}
 use mathlib.Core.List.{List, [], _∷_, map}
 use lib.ListN.{length}
 use Rattle.sets.specs.Member.{member}
+use Rattle.table.specs.declared.family.Family.{Family}
+use Rattle.table.specs.declared.family.Family.the-variants.{Release, Until, Eventually, Always}
 use Rattle.table.specs.Table.{Table, stateAt, nodeAt, stepAt}
 use Rattle.table.specs.Accept.{all as allOf, any as anyOf}
 use Rattle.table.specs.Facts.{Wellformed}
-use Rattle.ctl.specs.Rule.{Quantifier, every, some, Operator, constant, atom, negation, conjunction, disjunction, next, release, operatorOf}
+use Rattle.ctl.specs.Rule.{Quantifier, every, some, Operator, constant, atom, negation, conjunction, disjunction, next, fixpoint, operatorOf}
 use Rattle.ctl.proofs.BottomUp.{OfChildren, of-children}
 use Rattle.circuit.specs.Logic.{Literal, pos, neg, Gate, all}
-use Rattle.circuit.specs.Variables.{Var, step, node, edge, ahead, either, level, stepsOut, value}
-use Rattle.circuit.specs.Gates.{Defined, edgeGate, aheadGate, constantGate, is, atStates, edges, levelGates, nodeGates, keptGates, gates}
+use Rattle.circuit.specs.Variables.{Var, step, node, edge, ahead, inner, level, stepsOut, value}
+use Rattle.circuit.specs.Gates.{Defined, edgeGate, aheadGate, constantGate, is, atStates, edges, joinGates, levelGates, nodeGates, keptGates, gates}
 use Rattle.circuit.proofs.Lists.{Each, each-more, each-one, each-append, each-map, each-over}
 use Rattle.circuit.proofs.Value.{value-cases}
 use Rattle.circuit.proofs.Gate.{beq-sign, makes, gateValue}
 use Rattle.circuit.proofs.Quantified.{quantified, join, quantified-same, quantified-map}
-use Rattle.circuit.proofs.Evaluate.{edgeValue, shape, shapeAt, keeps, keptValue, aheadValue, levelValue, valuesOf, nodeValue, node-value, levelOf, assignment}
+use Rattle.circuit.proofs.Evaluate.{edgeValue, Shape, shape, shapeAt, innerValue, keeps, keptValue, aheadValue, levelValue, valuesOf, nodeValue, node-value, levelOf, assignment}
 
 -- ---- the values of gates
 
@@ -85,21 +87,21 @@ module _ (T : Table) (list : List ℕ) where
   pub value-right : Wellformed T → (i : ℕ) → i < length (T .nodes) → (s : ℕ) → α (value T i s) ≡ nodeValue T list i s
   unfolding assignment valuesOf
   value-right wf i h s = value-cases T (λ v. α v ≡ nodeValue T list i s) i s refl
-      (λ q a b e. ap (λ (o : Operator). levelOf T list (shape o) (length (T .states)) s) e ∙ sym (node-is wf i h (release q a b) e s))
+      (λ f q a b e. ap (λ (o : Operator). levelOf T list (shape o) (length (T .states)) s) e ∙ sym (node-is wf i h (fixpoint f q a b) e s))
 
-  module _ (i : ℕ) (q : Quantifier) (a b : ℕ) (is-shape : shapeAt T i ≡ (q, a, b)) where
+  module _ (i : ℕ) (f : Family) (q : Quantifier) (a b : ℕ) (is-shape : shapeAt T i ≡ (f, q, a, b)) where
     -- level m of node i
     abbrev lower : ℕ → ℕ → Bool
-    lower = levelValue T list q (nodeValue T list a) (nodeValue T list b)
+    lower = levelValue T list f q (nodeValue T list a) (nodeValue T list b)
 
     -- what its variables are, in terms of the level below
     edge-is : (m j : ℕ) → α (edge i m j) ≡ edgeValue q (keeps T list j) (lower (pred m) (stepAt T j .to))
     unfolding assignment
-    edge-is m j = ap (λ (p : Quantifier × ℕ × ℕ). edgeValue (p .0) (keeps T list j) (levelOf T list p (pred m) (stepAt T j .to))) is-shape
+    edge-is m j = ap (λ (p : Shape). edgeValue (p .1) (keeps T list j) (levelOf T list p (pred m) (stepAt T j .to))) is-shape
 
     ahead-is : (m s : ℕ) → α (ahead i m s) ≡ aheadValue T list q (lower (pred m)) s
     unfolding assignment
-    ahead-is m s = ap (λ (p : Quantifier × ℕ × ℕ). aheadValue T list (p .0) (levelOf T list p (pred m)) s) is-shape
+    ahead-is m s = ap (λ (p : Shape). aheadValue T list (p .1) (levelOf T list p (pred m)) s) is-shape
 
     -- the step gates of node i at level m, over the level below
     edges-right : (m : ℕ) (end : ℕ → Var) → ((t : ℕ) → α (end t) ≡ lower (pred m) t) → (s : ℕ) → Each Right (edges T q i m end s)
@@ -114,21 +116,41 @@ module _ (T : Table) (list : List ℕ) where
 
     level-is : (m s : ℕ) → α (level i m s) ≡ lower m s
     unfolding assignment
-    level-is m s = ap (λ (p : Quantifier × ℕ × ℕ). levelOf T list p m s) is-shape
+    level-is m s = ap (λ (p : Shape). levelOf T list p m s) is-shape
 
-    either-is : (m s : ℕ) → α (either i m s) ≡ nodeValue T list a s || aheadValue T list q (lower (pred m)) s
+    inner-is : (m s : ℕ) → α (inner i m s) ≡ innerValue f (nodeValue T list a s) (aheadValue T list q (lower (pred m)) s)
     unfolding assignment
-    either-is m s = ap (λ (p : Quantifier × ℕ × ℕ). nodeValue T list (p .1) s || aheadValue T list (p .0) (levelOf T list p (pred m)) s) is-shape
+    inner-is m s = ap (λ (p : Shape). innerValue (p .0) (nodeValue T list (p .2) s) (aheadValue T list (p .1) (levelOf T list p (pred m)) s)) is-shape
 
-    -- the gates of a level above 0
-    level-right : ((s : ℕ) → α (value T a s) ≡ nodeValue T list a s) → ((s : ℕ) → α (value T b s) ≡ nodeValue T list b s) → (m s : ℕ)
-        → Each Right (levelGates T q i a b m s)
-    unfolding levelValue
-    level-right left right m s = each-append _ (edges T q i (suc m) (level i m) s) _
-        (edges-right (suc m) (level i m) (level-is m) s)
-        (each-more _ _ _ (ahead-is (suc m) s ∙ sym (ahead-right (suc m) s))
-        (each-more _ _ _ (either-is (suc m) s ∙ sym (two-pos α some (value T a s) (ahead i (suc m) s) ∙ ap₂ _||_ (left s) (ahead-is (suc m) s)))
-        (each-one _ _ (level-is (suc m) s ∙ sym (two-pos α every (value T b s) (either i (suc m) s) ∙ ap₂ _&&_ (right s) (either-is (suc m) s))))))
+  -- G and the level, over N
+  join-right : (f : Family) (q : Quantifier) (i a b : ℕ) → shapeAt T i ≡ (f, q, a, b)
+      → ((s : ℕ) → α (value T a s) ≡ nodeValue T list a s) → ((s : ℕ) → α (value T b s) ≡ nodeValue T list b s) → (m s : ℕ)
+      → Each Right (joinGates T f i a b (suc m) s)
+  unfolding levelValue
+  join-right Release q i a b e left right m s =
+      let N = ahead-is i Release q a b e (suc m) s in
+      let G = inner-is i Release q a b e (suc m) s in
+      each-more _ _ _ (G ∙ sym (two-pos α some (value T a s) (ahead i (suc m) s) ∙ ap₂ _||_ (left s) N))
+      (each-one _ _ (level-is i Release q a b e (suc m) s ∙ sym (two-pos α every (value T b s) (inner i (suc m) s) ∙ ap₂ _&&_ (right s) G)))
+  join-right Until q i a b e left right m s =
+      let N = ahead-is i Until q a b e (suc m) s in
+      let G = inner-is i Until q a b e (suc m) s in
+      each-more _ _ _ (G ∙ sym (two-pos α every (value T a s) (ahead i (suc m) s) ∙ ap₂ _&&_ (left s) N))
+      (each-one _ _ (level-is i Until q a b e (suc m) s ∙ sym (two-pos α some (value T b s) (inner i (suc m) s) ∙ ap₂ _||_ (right s) G)))
+  join-right Eventually q i a b e left right m s =
+      let N = ahead-is i Eventually q a b e (suc m) s in
+      each-one _ _ (level-is i Eventually q a b e (suc m) s ∙ sym (two-pos α some (value T b s) (ahead i (suc m) s) ∙ ap₂ _||_ (right s) N))
+  join-right Always q i a b e left right m s =
+      let N = ahead-is i Always q a b e (suc m) s in
+      each-one _ _ (level-is i Always q a b e (suc m) s ∙ sym (two-pos α every (value T b s) (ahead i (suc m) s) ∙ ap₂ _&&_ (right s) N))
+
+  -- the gates of a level above 0
+  level-right : (f : Family) (q : Quantifier) (i a b : ℕ) → shapeAt T i ≡ (f, q, a, b)
+      → ((s : ℕ) → α (value T a s) ≡ nodeValue T list a s) → ((s : ℕ) → α (value T b s) ≡ nodeValue T list b s) → (m s : ℕ)
+      → Each Right (levelGates T f q i a b m s)
+  level-right f q i a b e left right m s = each-append _ (edges T q i (suc m) (level i m) s) _
+      (edges-right i f q a b e (suc m) (level i m) (level-is i f q a b e m) s)
+      (each-more _ _ _ (ahead-is i f q a b e (suc m) s ∙ sym (ahead-right i f q a b e (suc m) s)) (join-right f q i a b e left right m s))
 
   module _ (wf : Wellformed T) (i : ℕ) (h : i < length (T .nodes)) where
     -- a gate for each state
@@ -147,12 +169,12 @@ module _ (T : Table) (list : List ℕ) where
     node-right (conjunction a b) e c = plain-right _ e _ (λ s. two-pos α every (value T a s) (value T b s) ∙ ap₂ _&&_ (c .0 s) (c .1 s))
     node-right (disjunction a b) e c = plain-right _ e _ (λ s. two-pos α some (value T a s) (value T b s) ∙ ap₂ _||_ (c .0 s) (c .1 s))
     node-right (next q a) e c = each-over (length (T .states)) _ _ (λ s l. each-append _ (edges T q i 0 (value T a) s) _
-        (edges-right i q a a (ap shape e) 0 (value T a) c s)
-        (each-one _ _ (node-is wf i h _ e s ∙ sym (ahead-right i q a a (ap shape e) 0 s))))
-    node-right (release q a b) e c = each-append _ (atStates T _) _
+        (edges-right i Release q a a (ap shape e) 0 (value T a) c s)
+        (each-one _ _ (node-is wf i h _ e s ∙ sym (ahead-right i Release q a a (ap shape e) 0 s))))
+    node-right (fixpoint f q a b) e c = each-append _ (atStates T _) _
         (each-over (length (T .states)) _ _ (λ s l.
-        each-one _ _ (level-is i q a b (ap shape e) 0 s ∙ sym (one-value α (pos (value T b s)) ∙ pos-value α (value T b s) ∙ c .1 s))))
-        (each-over (length (T .states)) _ _ (λ m l. each-over (length (T .states)) _ _ (λ s k. level-right i q a b (ap shape e) (c .0) (c .1) m s)))
+        each-one _ _ (level-is i f q a b (ap shape e) 0 s ∙ sym (one-value α (pos (value T b s)) ∙ pos-value α (value T b s) ∙ c .1 s))))
+        (each-over (length (T .states)) _ _ (λ m l. each-over (length (T .states)) _ _ (λ s k. level-right f q i a b (ap shape e) (c .0) (c .1) m s)))
 
   -- the gates of K
   kept-right : Each Right (keptGates T)

@@ -10,12 +10,13 @@ use borrow.Author.Tests.{eqb-true, eq-eqb}
 use lib.Dec.{eqb}
 use lib.ListN.{length, getD}
 use Rattle.table.specs.declared.record.Step.{Step}
+use Rattle.table.specs.declared.family.Family.{Family}
 use Rattle.table.specs.Table.{Table, zeroStep, stepAt}
 use Rattle.table.specs.Accept.{all as allOf}
 use Rattle.table.specs.Facts.{Wellformed}
-use Rattle.ctl.specs.Rule.{Quantifier, every, some, Operator, constant, atom, negation, conjunction, disjunction, next, release}
+use Rattle.ctl.specs.Rule.{Quantifier, every, some, Operator, constant, atom, negation, conjunction, disjunction, next, fixpoint}
 use Rattle.ctl.specs.Kept.{Next, Kept, Total}
-use Rattle.ctl.specs.Levels.{has, iterate, nextIn, level, levels, released}
+use Rattle.ctl.specs.Levels.{has, iterate, nextIn, joined, level, levels}
 use Rattle.ctl.specs.Labels.{keptSteps, endsFrom, marks, targets, isKept, labelOf, label, marked}
 use Rattle.ctl.proofs.Tabulate.{getD-tabulate, any-true}
 use Rattle.ctl.proofs.Stable.{level-mark}
@@ -123,13 +124,14 @@ module _ (T : Table) (wf : Wellformed T) (list : List ℕ) (total : Total T list
       ∙ next-marks q X (targets T list s) (targets-complete T list s t h)
 
   -- the levels
-  level-marks : (q : Quantifier) (A B : List Bool) (f g : ℕ → Bool) → Marks A f → Marks B g → (m : ℕ)
-      → Marks (iterate (level released q (targets T list) (length (T .states)) A B) B m) (levelValue T list q f g m)
+  level-marks : (f : Family) (q : Quantifier) (A B : List Bool) (x y : ℕ → Bool) → Marks A x → Marks B y → (m : ℕ)
+      → Marks (iterate (level f q (targets T list) (length (T .states)) A B) B m) (levelValue T list f q x y m)
   unfolding iterate levelValue
-  level-marks q A B f g left right zero s t h = right s t h
-  level-marks q A B f g left right (suc m) s t h =
-      ap₂ _&&_ (right s t h) (ap₂ _||_ (left s t h) (ahead-marks q _ _ (level-marks q A B f g left right m) s t h))
-      ∙ sym (level-mark released q (targets T list) (length (T .states)) A B _ s (next-inside T wf list s t h .0))
+  level-marks f q A B x y left right zero s t h = right s t h
+  level-marks f q A B x y left right (suc m) s t h =
+      ap₂ (λ (v w : Bool). joined f v w (aheadValue T list q (levelValue T list f q x y m) s)) (left s t h) (right s t h)
+      ∙ ap (joined f (has A s) (has B s)) (ahead-marks q _ _ (level-marks f q A B x y left right m) s t h)
+      ∙ sym (level-mark f q (targets T list) (length (T .states)) A B _ s (next-inside T wf list s t h .0))
 
   -- the values of an operator are its marks, if those of its children are theirs
   operator-marks : (o : Operator) (child : ℕ → List Bool) (values : ℕ → ℕ → Bool) → OfChildren (λ k. Marks (child k) (values k)) o
@@ -141,7 +143,7 @@ module _ (T : Table) (wf : Wellformed T) (list : List ℕ) (total : Total T list
   operator-marks (conjunction a b) child values c = marks-marks _ _ (λ s t h. ap₂ _&&_ (c .0 s t h) (c .1 s t h))
   operator-marks (disjunction a b) child values c = marks-marks _ _ (λ s t h. ap₂ _||_ (c .0 s t h) (c .1 s t h))
   operator-marks (next q a) child values c = marks-marks _ _ (ahead-marks q (child a) (values a) c)
-  operator-marks (release q a b) child values c = level-marks q (child a) (child b) (values a) (values b) (c .0) (c .1) (length (T .states))
+  operator-marks (fixpoint f q a b) child values c = level-marks f q (child a) (child b) (values a) (values b) (c .0) (c .1) (length (T .states))
 
   -- At a kept state, the value of a node is its mark.
   pub value-marked : (i : ℕ) → i < length (T .nodes) → (s t : ℕ) → Next T list s t → nodeValue T list i s ≡ marked T list i s

@@ -7,13 +7,15 @@ use mathlib.Core.Logic.{_⊎_, inl, inr, ⊎-elim}
 use mathlib.Core.List.{List, [], _∷_, List·Memᴰ, List·Memᴰ·head, List·Memᴰ·tail, Memᴰ·cast, Memᴰ·map, Memᴰ·of-map, Memᴰ·append-right}
 use lib.ListN.{length}
 use Rattle.sets.specs.Member.{member}
+use Rattle.table.specs.declared.family.Family.{Family}
+use Rattle.table.specs.declared.family.Family.the-variants.{Release, Until, Eventually, Always}
 use Rattle.table.specs.Table.{Table, stateAt, nodeAt, stepAt}
 use Rattle.table.specs.Facts.{Wellformed}
-use Rattle.ctl.specs.Rule.{Quantifier, every, some, Operator, constant, atom, negation, conjunction, disjunction, next, release, operatorOf}
+use Rattle.ctl.specs.Rule.{Quantifier, every, some, Operator, constant, atom, negation, conjunction, disjunction, next, fixpoint, operatorOf}
 use Rattle.ctl.proofs.BottomUp.{OfChildren, of-children}
 use Rattle.circuit.specs.Logic.{Literal, pos, neg, Gate, all}
-use Rattle.circuit.specs.Variables.{Var, step, node, edge, ahead, either, level, stepsOut, valueOf, value, variables}
-use Rattle.circuit.specs.Gates.{Defined, is, edgeGate, aheadGate, constantGate, edges, levelGates, atStates, nodeGates, keptGates, gates}
+use Rattle.circuit.specs.Variables.{Var, step, node, edge, ahead, inner, level, stepsOut, valueOf, value, variables}
+use Rattle.circuit.specs.Gates.{Defined, is, edgeGate, aheadGate, constantGate, edges, joinGates, levelGates, atStates, nodeGates, keptGates, gates}
 use Rattle.circuit.proofs.Lists.{Each, each-none, each-more, each-one, each-map, in-over, in-out}
 use Rattle.circuit.proofs.Gate.{Reads}
 use Rattle.circuit.proofs.Outputs.{outputs, variable-cases, step-variable, output-variable}
@@ -52,9 +54,16 @@ module _ (T : Table) where
   edge-output q i m end s j h = Memᴰ·map (λ d. d .output) (Memᴰ·map (λ j. is (edge i m j) (edgeGate q j (end (stepAt T j .to)))) h)
 
   -- the next level at each state is an output of its gates
-  level-output : (q : Quantifier) (i a b m : ℕ) → EachState T (λ s. List·Memᴰ (level i (suc m) s) (outputs (atStates T (levelGates T q i a b m))))
-  level-output q i a b m s h = Memᴰ·map (λ d. d .output) (in-over (length (T .states)) (levelGates T q i a b m) s h
-      (Memᴰ·append-right (edges T q i (suc m) (level i m) s) (List·Memᴰ·tail (List·Memᴰ·tail (List·Memᴰ·head refl)))))
+  join-output : (f : Family) (i a b m s : ℕ) → List·Memᴰ (level i m s) (outputs (joinGates T f i a b m s))
+  join-output Release i a b m s = List·Memᴰ·tail (List·Memᴰ·head refl)
+  join-output Until i a b m s = List·Memᴰ·tail (List·Memᴰ·head refl)
+  join-output Eventually i a b m s = List·Memᴰ·head refl
+  join-output Always i a b m s = List·Memᴰ·head refl
+
+  level-output : (f : Family) (q : Quantifier) (i a b m : ℕ) → EachState T (λ s. List·Memᴰ (level i (suc m) s) (outputs (atStates T (levelGates T f q i a b m))))
+  level-output f q i a b m s h = outputs-up (joinGates T f i a b (suc m) s) (atStates T (levelGates T f q i a b m))
+      (λ d k. in-over (length (T .states)) (levelGates T f q i a b m) s h (Memᴰ·append-right (edges T q i (suc m) (level i m) s) (List·Memᴰ·tail k)))
+      (join-output f i a b (suc m) s)
 
   -- of a gate for each state, each is an output
   pub one-output : (f : ℕ → Var) (G : ℕ → Gate Var) → EachState T (λ s. List·Memᴰ (f s) (outputs (atStates T (λ s. is (f s) (G s) ∷ []))))
@@ -70,14 +79,24 @@ module _ (T : Table) where
   value-output i (disjunction a b) s h = one-output (node i) _ s h
   value-output i (next q a) s h =
       Memᴰ·map (λ d. d .output) (in-over (length (T .states)) _ s h (Memᴰ·append-right (edges T q i 0 (value T a) s) (List·Memᴰ·head refl)))
-  value-output i (release q a b) s h =
+  value-output i (fixpoint f q a b) s h =
       let n = length (T .states) in
       let last : suc (n - 1) ≡ n = omega arith in
-      subst (λ (m : ℕ). List·Memᴰ (level i m s) (outputs (nodeGates T i (release q a b)))) last
-      (outputs-up (atStates T (levelGates T q i a b (n - 1))) (nodeGates T i (release q a b))
+      subst (λ (m : ℕ). List·Memᴰ (level i m s) (outputs (nodeGates T i (fixpoint f q a b)))) last
+      (outputs-up (atStates T (levelGates T f q i a b (n - 1))) (nodeGates T i (fixpoint f q a b))
       (λ d m. Memᴰ·append-right (atStates T (λ s. is (level i 0 s) (all (pos (value T b s) ∷ [])) ∷ []))
-      (in-over n (λ m. atStates T (levelGates T q i a b m)) (n - 1) (omega arith) m))
-      (level-output q i a b (n - 1) s h))
+      (in-over n (λ m. atStates T (levelGates T f q i a b m)) (n - 1) (omega arith) m))
+      (level-output f q i a b (n - 1) s h))
+
+-- G and the level read X of the children and N
+join-follows : (T : Table) (K : Var → Type 0) (f : Family) (i a b m s : ℕ) → K (value T a s) → K (value T b s) → K (ahead i m s)
+    → Follows K (joinGates T f i a b m s)
+join-follows T K Release i a b m s left right N =
+    (reads-two _ (pos (value T a s)) (pos (ahead i m s)) left N, (reads-two _ (pos (value T b s)) (pos (inner i m s)) (inl right) (inr refl), tt))
+join-follows T K Until i a b m s left right N =
+    (reads-two _ (pos (value T a s)) (pos (ahead i m s)) left N, (reads-two _ (pos (value T b s)) (pos (inner i m s)) (inl right) (inr refl), tt))
+join-follows T K Eventually i a b m s left right N = (reads-two _ (pos (value T b s)) (pos (ahead i m s)) right N, tt)
+join-follows T K Always i a b m s left right N = (reads-two _ (pos (value T b s)) (pos (ahead i m s)) right N, tt)
 
 module _ (T : Table) (wf : Wellformed T) (K : Var → Type 0) (steps : (j : ℕ) → j < length (T .steps) → K (step j)) where
   -- the gates of steps read the steps and what is at their ends
@@ -86,15 +105,12 @@ module _ (T : Table) (wf : Wellformed T) (K : Var → Type 0) (steps : (j : ℕ)
       let r = in-out T s j .0 h in reads-edge K q j _ (steps j (r .0)) (ends _ (wf .to-state j (r .0)))))
 
   -- a level reads X of the children and the level below
-  level-follows : (q : Quantifier) (i a b m : ℕ) → EachState T (λ s. K (value T a s)) → EachState T (λ s. K (value T b s))
-      → EachState T (λ s. K (level i m s)) → Follows K (atStates T (levelGates T q i a b m))
-  level-follows q i a b m left right lower = follows-each K (length (T .states)) _ (λ s h.
+  level-follows : (f : Family) (q : Quantifier) (i a b m : ℕ) → EachState T (λ s. K (value T a s)) → EachState T (λ s. K (value T b s))
+      → EachState T (λ s. K (level i m s)) → Follows K (atStates T (levelGates T f q i a b m))
+  level-follows f q i a b m left right lower = follows-each K (length (T .states)) _ (λ s h.
       follows-append K (edges T q i (suc m) (level i m) s) _ (edges-follow q i (suc m) (level i m) lower s) (
         reads-ahead _ q _ (each-map _ _ (stepsOut T s) (λ j l. inr (edge-output T q i (suc m) (level i m) s j l))),
-        (
-          reads-two _ (pos (value T a s)) (pos (ahead i (suc m) s)) (inl (inl (left s h))) (inr refl),
-          (reads-two _ (pos (value T b s)) (pos (either i (suc m) s)) (inl (inl (inl (right s h)))) (inr refl), tt),
-        ),
+        join-follows T _ f i a b (suc m) s (inl (inl (left s h))) (inl (inl (right s h))) (inr refl),
       ))
 
 module _ (T : Table) (wf : Wellformed T) (K : Var → Type 0) (steps : (j : ℕ) → j < length (T .steps) → K (step j)) where
@@ -111,17 +127,17 @@ module _ (T : Table) (wf : Wellformed T) (K : Var → Type 0) (steps : (j : ℕ)
   node-follows i (next q a) c = follows-each K (length (T .states)) _ (λ s h.
       follows-append K (edges T q i 0 (value T a) s) _ (edges-follow T wf K steps q i 0 (value T a) c s)
       (reads-ahead _ q _ (each-map _ _ (stepsOut T s) (λ j l. inr (edge-output T q i 0 (value T a) s j l))), tt))
-  node-follows i (release q a b) c =
+  node-follows i (fixpoint f q a b) c =
       follows-append K (atStates T _) _
       (follows-each K (length (T .states)) _ (λ s h. (each-one _ (pos (value T b s)) (c .1 s h), tt)))
       (follows-tabulate _ (length (T .states)) _ (λ m. m) (λ m h.
-      level-follows T wf _ (λ j l. inl (inl (steps j l))) q i a b m (λ s l. inl (inl (c .0 s l))) (λ s l. inl (inl (c .1 s l))) (lower m)))
+      level-follows T wf _ (λ j l. inl (inl (steps j l))) f q i a b m (λ s l. inl (inl (c .0 s l))) (λ s l. inl (inl (c .1 s l))) (lower m)))
     where
       -- the level below is an output, of the first gates or of the level before
       lower : (m : ℕ) → EachState T (λ s. After K (atStates T (λ s. is (level i 0 s) (all (pos (value T b s) ∷ [])) ∷ [])) (level i m s)
-          ⊎ ((k : ℕ) × (k < m) × List·Memᴰ (level i m s) (outputs (atStates T (levelGates T q i a b k)))))
+          ⊎ ((k : ℕ) × (k < m) × List·Memᴰ (level i m s) (outputs (atStates T (levelGates T f q i a b k)))))
       lower zero s h = inl (inr (one-output T (level i 0) _ s h))
-      lower (suc m) s h = inr (m, omega arith, level-output T q i a b m s h)
+      lower (suc m) s h = inr (m, omega arith, level-output T f q i a b m s h)
 
 -- ---- the gates of a table
 

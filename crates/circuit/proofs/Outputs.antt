@@ -4,11 +4,13 @@ use mathlib.Core.Path.{_≡_, refl, sym, ap, ap₂, fun-ext, subst, _∙_}
 use mathlib.Core.Logic.{_⊎_, ⊎-map}
 use mathlib.Core.List.{List, [], _∷_, _++_, append-assoc, map, map-map, map-append, List·Memᴰ, List·Memᴰ·append-cases, Memᴰ·map, Memᴰ·of-map, Memᴰ·append-left, Memᴰ·append-right}
 use lib.ListN.{length}
+use Rattle.table.specs.declared.family.Family.{Family}
+use Rattle.table.specs.declared.family.Family.the-variants.{Release, Until, Eventually, Always}
 use Rattle.table.specs.Table.{Table, nodeAt}
-use Rattle.ctl.specs.Rule.{Quantifier, Operator, constant, atom, negation, conjunction, disjunction, next, release, operatorOf}
+use Rattle.ctl.specs.Rule.{Quantifier, Operator, constant, atom, negation, conjunction, disjunction, next, fixpoint, operatorOf}
 use Rattle.circuit.specs.Logic.{Gate}
-use Rattle.circuit.specs.Variables.{Var, step, kept, node, edge, level, concat, stepsOut, value, nodeVariables, variables}
-use Rattle.circuit.specs.Gates.{Defined, is, edges, levelGates, atStates, nodeGates, keptGates, gates}
+use Rattle.circuit.specs.Variables.{Var, step, kept, node, edge, ahead, level, concat, stepsOut, ownVariables, value, nodeVariables, variables}
+use Rattle.circuit.specs.Gates.{Defined, is, edges, joinGates, levelGates, atStates, nodeGates, keptGates, gates}
 use Rattle.ctl.proofs.Select.{in-below}
 use Rattle.ctl.specs.Levels.{below}
 
@@ -48,6 +50,13 @@ module _ (T : Table) where
       map-append (λ d. d .output) (edges T q i m end s) ds
       ∙ ap (λ (vs : List Var). vs ++ outputs ds) (map-map (λ (d : Defined). d .output) (λ j. is (edge i m j) _) (stepsOut T s))
 
+  -- N, G where there is one, and the level
+  own-outputs : (f : Family) (i a b m s : ℕ) → ahead i m s ∷ outputs (joinGates T f i a b m s) ≡ ownVariables f i m s
+  own-outputs Release i a b m s = refl
+  own-outputs Until i a b m s = refl
+  own-outputs Eventually i a b m s = refl
+  own-outputs Always i a b m s = refl
+
   -- the outputs of a node's gates are its variables
   pub node-outputs : (i : ℕ) (o : Operator) → outputs (nodeGates T i o) ≡ nodeVariables T i o
   unfolding nodeGates nodeVariables
@@ -57,11 +66,12 @@ module _ (T : Table) where
   node-outputs i (conjunction a b) = one-outputs (node i) _
   node-outputs i (disjunction a b) = one-outputs (node i) _
   node-outputs i (next q a) = outputs-over _ _ (λ s. edge-outputs q i 0 (value T a) s _) (length (T .states))
-  node-outputs i (release q a b) =
+  node-outputs i (fixpoint f q a b) =
       map-append (λ d. d .output) (atStates T _) _
       ∙ ap₂ _++_ (one-outputs (level i 0) _)
-      (outputs-over _ _ (λ m. outputs-over (levelGates T q i a b m) _
-      (λ s. edge-outputs q i (suc m) (level i m) s _) (length (T .states))) (length (T .states)))
+      (outputs-over _ _ (λ m. outputs-over (levelGates T f q i a b m) _
+      (λ s. edge-outputs q i (suc m) (level i m) s _ ∙ ap (λ (vs : List Var). map (edge i (suc m)) (stepsOut T s) ++ vs) (own-outputs f i a b (suc m) s))
+      (length (T .states))) (length (T .states)))
 
   -- The variables are the steps and then the outputs of the gates.
   pub variables-outputs : variables T ≡ map step (below (length (T .steps))) ++ outputs (gates T)

@@ -1,13 +1,15 @@
--- The gate of each variable that is not a step, in the order of the variables. 01, "The net", the list of K, X and the levels.
+-- The gate of each variable that is not a step, in the order of the variables. 01, "The net", the list of K, X and the levels; 02, A1.
 use Prim.Native.Nat.{ℕ, suc}
 use mathlib.Core.Bool.{Bool, true, false}
 use mathlib.Core.List.{List, [], _∷_, _++_, map}
 use lib.ListN.{length}
 use Rattle.sets.specs.Member.{member}
+use Rattle.table.specs.declared.family.Family.{Family}
+use Rattle.table.specs.declared.family.Family.the-variants.{Release, Until, Eventually, Always}
 use Rattle.table.specs.Table.{Table, stateAt, stepAt, nodeAt}
-use Rattle.ctl.specs.Rule.{Quantifier, every, some, Operator, constant, atom, negation, conjunction, disjunction, next, release, operatorOf}
+use Rattle.ctl.specs.Rule.{Quantifier, every, some, Operator, constant, atom, negation, conjunction, disjunction, next, fixpoint, operatorOf}
 use Rattle.circuit.specs.Logic.{Literal, pos, neg, Gate, all, any}
-use Rattle.circuit.specs.Variables.{Var, step, kept, node, edge, ahead, either, level, concat, stepsOut, value}
+use Rattle.circuit.specs.Variables.{Var, step, kept, node, edge, ahead, inner, level, concat, stepsOut, value}
 use Rattle.ctl.specs.Levels.{below}
 
 -- a variable with its gate
@@ -38,14 +40,25 @@ module _ (T : Table) where
   abbrev pub edges : Quantifier → ℕ → ℕ → (ℕ → Var) → ℕ → List Defined
   edges q i m end s = map (λ j. is (edge i m j) (edgeGate q j (end (stepAt T j .to)))) (stepsOut T s)
 
-  -- level m at state s, over the level below
-  abbrev pub levelGates : Quantifier → ℕ → ℕ → ℕ → ℕ → ℕ → List Defined
-  levelGates q i a b m s =
+  -- G and the level at level m and state s, over N: for V, the OR of a and N, and the AND of b and G; for U, AND and OR exchanged; for
+  -- eventually and always the level alone, the OR or the AND of b and N
+  abbrev pub joinGates : Family → ℕ → ℕ → ℕ → ℕ → ℕ → List Defined
+  joinGates Release i a b m s =
+      is (inner i m s) (any (pos (value T a s) ∷ pos (ahead i m s) ∷ []))
+      ∷ is (level i m s) (all (pos (value T b s) ∷ pos (inner i m s) ∷ []))
+      ∷ []
+  joinGates Until i a b m s =
+      is (inner i m s) (all (pos (value T a s) ∷ pos (ahead i m s) ∷ []))
+      ∷ is (level i m s) (any (pos (value T b s) ∷ pos (inner i m s) ∷ []))
+      ∷ []
+  joinGates Eventually i a b m s = is (level i m s) (any (pos (value T b s) ∷ pos (ahead i m s) ∷ [])) ∷ []
+  joinGates Always i a b m s = is (level i m s) (all (pos (value T b s) ∷ pos (ahead i m s) ∷ [])) ∷ []
+
+  -- level m + 1 at state s, over level m
+  abbrev pub levelGates : Family → Quantifier → ℕ → ℕ → ℕ → ℕ → ℕ → List Defined
+  levelGates f q i a b m s =
       edges q i (suc m) (level i m) s
-      ++ (is (ahead i (suc m) s) (aheadGate q (map (λ j. pos (edge i (suc m) j)) (stepsOut T s)))
-      ∷ is (either i (suc m) s) (any (pos (value T a s) ∷ pos (ahead i (suc m) s) ∷ []))
-      ∷ is (level i (suc m) s) (all (pos (value T b s) ∷ pos (either i (suc m) s) ∷ []))
-      ∷ [])
+      ++ (is (ahead i (suc m) s) (aheadGate q (map (λ j. pos (edge i (suc m) j)) (stepsOut T s))) ∷ joinGates f i a b (suc m) s)
 
   abbrev pub atStates : (ℕ → List Defined) → List Defined
   atStates f = concat (map f (below (length (T .states))))
@@ -57,9 +70,9 @@ module _ (T : Table) where
   nodeGates i (conjunction a b) = atStates (λ s. is (node i s) (all (pos (value T a s) ∷ pos (value T b s) ∷ [])) ∷ [])
   nodeGates i (disjunction a b) = atStates (λ s. is (node i s) (any (pos (value T a s) ∷ pos (value T b s) ∷ [])) ∷ [])
   nodeGates i (next q a) = atStates (λ s. edges q i 0 (value T a) s ++ (is (node i s) (aheadGate q (map (λ j. pos (edge i 0 j)) (stepsOut T s))) ∷ []))
-  nodeGates i (release q a b) =
+  nodeGates i (fixpoint f q a b) =
       atStates (λ s. is (level i 0 s) (all (pos (value T b s) ∷ [])) ∷ [])
-      ++ concat (map (λ m. atStates (levelGates q i a b m)) (below (length (T .states))))
+      ++ concat (map (λ m. atStates (levelGates f q i a b m)) (below (length (T .states))))
 
   -- K(s): OR of E over the steps out of s
   abbrev pub keptGates : List Defined

@@ -14,7 +14,8 @@ fn node_cost(kind: usize, n: usize, e: usize) -> usize
 {
     match kind {
         6 | 7 => e + n,
-        8 | 9 => n + n * (e + 3 * n),
+        8 | 9 | 10 | 11 => n + n * (e + 3 * n),
+        12 | 13 | 14 | 15 => n + n * (e + 2 * n),
         _ => n,
     }
 }

@@ -12,7 +12,8 @@ use Rattle.circuit.specs.Logic.{Literal}
 use Rattle.circuit.specs.Variables.{Var, step}
 use Rattle.rows.specs.declared.row.Report.{Report}
 use Rattle.rows.specs.Words.{rowAt, SmallRow, stepPlace}
-use Rattle.closure.specs.Knowledge.{Knowledge, knowledge, Small, Sized, levelTotal, levelBase, sum, total}
+use Rattle.ctl.specs.Rule.{operatorOf}
+use Rattle.closure.specs.Knowledge.{Knowledge, knowledge, Small, Sized, levelTotal, levelBase, secondChild, sum, total}
 use Rattle.propagate.specs.Memory.{Memory, nodePlace}
 use Rattle.closure.specs.Rest.{Rest}
 use Rattle.closure.specs.Inside.{literal, Inside}
@@ -44,7 +45,7 @@ small-knowledge {T} {M} z = record {
   levels = λ i m. pick (eqb m 0) (eqb m (length (T .states))) i m;
 }
   where
-    pick : (x y : Bool) (i m : ℕ) → SmallRow (cond x (rowAt (M .rows) (nodePlace (nodeAt T i .b))) (cond y (rowAt (M .rows) (nodePlace i)) (rowAt (M .words) (levelBase T i + 2 * (m - 1)))))
+    pick : (x y : Bool) (i m : ℕ) → SmallRow (cond x (rowAt (M .rows) (nodePlace (secondChild (operatorOf (nodeAt T i))))) (cond y (rowAt (M .rows) (nodePlace i)) (rowAt (M .words) (levelBase T i + 2 * (m - 1)))))
     pick true y i m = small-row z true _
     pick false true i m = small-row z true _
     pick false false i m = small-row z false _

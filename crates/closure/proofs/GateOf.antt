@@ -5,12 +5,13 @@ use mathlib.Core.Bool.{Bool}
 use mathlib.Core.List.{[], _∷_, map, List·Memᴰ, List·Memᴰ·head, List·Memᴰ·tail, Memᴰ·map, Memᴰ·append-left, Memᴰ·append-right}
 use lib.ListN.{length}
 use Rattle.sets.specs.Member.{member}
+use Rattle.table.specs.declared.family.Family.{Family}
 use Rattle.table.specs.Table.{Table, stateAt, stepAt, nodeAt}
 use Rattle.table.specs.Facts.{Wellformed}
-use Rattle.ctl.specs.Rule.{Quantifier, every, some, Operator, constant, atom, negation, conjunction, disjunction, next, release, operatorOf}
+use Rattle.ctl.specs.Rule.{Quantifier, every, some, Operator, constant, atom, negation, conjunction, disjunction, next, fixpoint, operatorOf}
 use Rattle.circuit.specs.Logic.{Literal, pos, neg, Gate, all, any}
-use Rattle.circuit.specs.Variables.{Var, step, kept, node, edge, ahead, either, level, stepsOut, valueOf, value}
-use Rattle.circuit.specs.Gates.{Defined, is, edgeGate, aheadGate, constantGate, edges, levelGates, atStates, nodeGates, keptGates, gates}
+use Rattle.circuit.specs.Variables.{Var, step, kept, node, edge, ahead, level, stepsOut, valueOf, value}
+use Rattle.circuit.specs.Gates.{Defined, is, edgeGate, aheadGate, constantGate, edges, joinGates, levelGates, atStates, nodeGates, keptGates, gates}
 use Rattle.circuit.specs.Clauses.{Clause, clauses}
 use Rattle.circuit.proofs.Lists.{in-over}
 use Rattle.circuit.proofs.Gate.{headOf, partsOf, gate-clauses}
@@ -95,19 +96,19 @@ module _ (T : Table) (wf : Wellformed T) (S : Literal Var → Type 0) (closed : 
         (Memᴰ·append-right (edges T q i 0 (value T a) s) (List·Memᴰ·head refl)))
 
     -- level 0, and the gates of a level above it
-    pub first-gate : (q : Quantifier) (a b : ℕ) → operatorOf (nodeAt T i) ≡ release q a b → (s : ℕ) → s < length (T .states)
+    pub first-gate : (fam : Family) (q : Quantifier) (a b : ℕ) → operatorOf (nodeAt T i) ≡ fixpoint fam q a b → (s : ℕ) → s < length (T .states)
         → ClosedGate S (level i 0 s) (all (pos (value T b s) ∷ []))
     unfolding nodeGates
-    first-gate q a b e s l = gate-of _ (node-in T i h _ e _ (Memᴰ·append-left _
+    first-gate fam q a b e s l = gate-of _ (node-in T i h _ e _ (Memᴰ·append-left _
         (alone-in T (λ s. is (level i 0 s) (all (pos (value T b s) ∷ []))) s l)))
 
-    module _ (q : Quantifier) (a b : ℕ) (e : operatorOf (nodeAt T i) ≡ release q a b) (m : ℕ) (few : m < length (T .states))
+    module _ (fam : Family) (q : Quantifier) (a b : ℕ) (e : operatorOf (nodeAt T i) ≡ fixpoint fam q a b) (m : ℕ) (few : m < length (T .states))
         (s : ℕ) (l : s < length (T .states)) where
       -- the gates of level m + 1 at state s
-      level-of : (d : Defined) → List·Memᴰ d (levelGates T q i a b m s) → ClosedGate S (d .output) (d .gate)
+      level-of : (d : Defined) → List·Memᴰ d (levelGates T fam q i a b m s) → ClosedGate S (d .output) (d .gate)
       unfolding nodeGates
       level-of d k = gate-of d (node-in T i h _ e d (Memᴰ·append-right (atStates T (λ s. is (level i 0 s) (all (pos (value T b s) ∷ [])) ∷ []))
-          (in-over (length (T .states)) _ m few (in-over (length (T .states)) (levelGates T q i a b m) s l k))))
+          (in-over (length (T .states)) _ m few (in-over (length (T .states)) (levelGates T fam q i a b m) s l k))))
 
       pub level-edge-gate : (j : ℕ) → List·Memᴰ j (stepsOut T s) → ClosedGate S (edge i (suc m) j) (edgeGate q j (level i m (stepAt T j .to)))
       level-edge-gate j k = level-of _ (Memᴰ·append-left _ (Memᴰ·map (λ j. is (edge i (suc m) j) (edgeGate q j (level i m (stepAt T j .to)))) k))
@@ -115,8 +116,6 @@ module _ (T : Table) (wf : Wellformed T) (S : Literal Var → Type 0) (closed : 
       pub ahead-gate : ClosedGate S (ahead i (suc m) s) (aheadGate q (map (λ j. pos (edge i (suc m) j)) (stepsOut T s)))
       ahead-gate = level-of _ (Memᴰ·append-right (edges T q i (suc m) (level i m) s) (List·Memᴰ·head refl))
 
-      pub either-gate : ClosedGate S (either i (suc m) s) (any (pos (value T a s) ∷ pos (ahead i (suc m) s) ∷ []))
-      either-gate = level-of _ (Memᴰ·append-right (edges T q i (suc m) (level i m) s) (List·Memᴰ·tail (List·Memᴰ·head refl)))
-
-      pub level-gate : ClosedGate S (level i (suc m) s) (all (pos (value T b s) ∷ pos (either i (suc m) s) ∷ []))
-      level-gate = level-of _ (Memᴰ·append-right (edges T q i (suc m) (level i m) s) (List·Memᴰ·tail (List·Memᴰ·tail (List·Memᴰ·head refl))))
+      -- G and the level
+      pub join-gate : (d : Defined) → List·Memᴰ d (joinGates T fam i a b (suc m) s) → ClosedGate S (d .output) (d .gate)
+      join-gate d k = level-of d (Memᴰ·append-right (edges T q i (suc m) (level i m) s) (List·Memᴰ·tail k))

@@ -10,7 +10,8 @@ use Rattle.circuit.specs.Variables.{Var}
 use Rattle.rows.specs.declared.row.Report.{Report}
 use Rattle.rows.specs.Row.{Within}
 use Rattle.rows.specs.Words.{rowAt, stepPlace}
-use Rattle.closure.specs.Knowledge.{Knowledge, knowledge, levelBase, levelRow}
+use Rattle.ctl.specs.Rule.{operatorOf}
+use Rattle.closure.specs.Knowledge.{Knowledge, knowledge, levelBase, secondChild, levelRow}
 use Rattle.propagate.specs.Memory.{Memory, nodePlace, keptPlace}
 use Rattle.closure.specs.Inside.{Inside}
 use Rattle.closure.specs.Advance.{Grows, Advance}
@@ -40,7 +41,7 @@ module _ (T : Table) (M N : Memory) (rows : Grows (M .rows) (N .rows)) (words : 
     steps = λ s l sign t k. inside .steps s l sign t (rows-within (M .rows) (N .rows) rows (stepPlace s) t sign k);
     kept = λ sign s k. inside .kept sign s (rows-within (M .rows) (N .rows) rows keptPlace s sign k);
     nodes = λ i h sign s k. inside .nodes i h sign s (rows-within (M .rows) (N .rows) rows (nodePlace i) s sign k);
-    levels = λ i q a b m h e l sign s k. inside .levels i q a b m h e l sign s (level-within i (nodeAt T i .b) m s sign k);
+    levels = λ i fam q a b m h e l sign s k. inside .levels i fam q a b m h e l sign s (level-within i (secondChild (operatorOf (nodeAt T i))) m s sign k);
   }
 
 -- so what is inside after an advance was inside before it

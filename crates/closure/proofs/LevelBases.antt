@@ -11,10 +11,10 @@ use lib.Seq.{take-all}
 use Rattle.table.specs.declared.record.Node.{Node}
 use Rattle.table.specs.Table.{Table, tableOf, countsOf, nodesPart, nodeOf, headerWidth, stateWidth, stepWidth, nodeWidth, nodeAt}
 use Rattle.table.proofs.Accepted.{node-read}
-use Rattle.table.proofs.Numbers.{two}
+use Rattle.table.proofs.Numbers.{four}
 use Rattle.table.proofs.Past.{node-past}
 use Rattle.table.proofs.Records.{records-length}
-use Rattle.ctl.specs.Rule.{Operator, constant, atom, negation, conjunction, disjunction, next, release, operators, operatorOf}
+use Rattle.ctl.specs.Rule.{Operator, constant, atom, negation, conjunction, disjunction, next, fixpoint, operators, operatorOf}
 use Rattle.closure.specs.Knowledge.{levelSize, levelSizes, levelBase, levelTotal}
 use Rattle.closure.proofs.LevelsFit.{base-next}
 
@@ -35,12 +35,15 @@ module _ (n a b : ℕ) where
   size-plain (suc (suc (suc (suc (suc (suc (suc zero))))))) h = refl
   size-plain (suc (suc (suc (suc (suc (suc (suc (suc k)))))))) h = absurd (omega arith)
 
-  -- kinds 8 and 9 have n - 1 that are stored, of two words each
-  pub size-release : (k : ℕ) → 8 ≤ k → k < 10 → 2 * (n - 1) ≡ kindSize k
-  size-release k low high = two (λ (j : ℕ). 2 * (n - 1) ≡ kindSize j) 8 k low high refl refl
+  -- kinds 8 to 15 have n - 1 that are stored, of two words each
+  pub size-fixpoint : (k : ℕ) → 8 ≤ k → k < 16 → 2 * (n - 1) ≡ kindSize k
+  size-fixpoint k low high = elim (decLt k 12) [
+    | yes h ↦ four (λ (j : ℕ). 2 * (n - 1) ≡ kindSize j) 8 k low h refl refl refl refl
+    | no d ↦ four (λ (j : ℕ). 2 * (n - 1) ≡ kindSize j) 12 k (omega (arith, d)) high refl refl refl refl
+  ]
 
   -- every later kind is the constant false
-  pub size-unknown : (k : ℕ) → 10 ≤ k → 0 ≡ kindSize k
+  pub size-unknown : (k : ℕ) → 16 ≤ k → 0 ≡ kindSize k
   size-unknown k h = sym (ap (levelSize n) (List·getD-eq-default (operators a b) (constant false) {n = k} h))
 
 -- a node of a table of at most 32 states takes at most 62
@@ -51,7 +54,7 @@ size-most n few (negation a) = omega arith
 size-most n few (conjunction a b) = omega arith
 size-most n few (disjunction a b) = omega arith
 size-most n few (next q a) = omega arith
-size-most n few (release q a b) = omega arith
+size-most n few (fixpoint fam q a b) = omega arith
 
 -- the node that the section has at any place; past the last it is all zeros
 pub node-anywhere : (table : List ℕ) (i : ℕ) → nodeOf (drop (nodeWidth * i) (nodesPart table)) ≡ nodeAt (tableOf table) i

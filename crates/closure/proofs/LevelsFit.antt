@@ -8,11 +8,20 @@ use mathlib.Core.List.{List, [], _∷_}
 use lib.ListN.{length, getD, take}
 use lib.Seq.{take-all}
 use Rattle.table.specs.declared.record.Node.{Node}
+use Rattle.table.specs.declared.family.Family.{Family}
+use Rattle.table.specs.declared.family.Family.the-variants.{Release, Until, Eventually, Always}
 use Rattle.table.specs.Table.{Table, zeroNode, nodeAt}
 use Rattle.table.specs.Facts.{Wellformed}
-use Rattle.ctl.specs.Rule.{Quantifier, Operator, constant, atom, negation, conjunction, disjunction, next, release, operatorOf}
-use Rattle.circuit.specs.Variables.{costOf, costs, variableFormula}
+use Rattle.ctl.specs.Rule.{Quantifier, Operator, constant, atom, negation, conjunction, disjunction, next, fixpoint, operatorOf}
+use Rattle.circuit.specs.Variables.{ownCount, costOf, costs, variableFormula}
 use Rattle.closure.specs.Knowledge.{levelSize, levelSizes, levelBase, levelTotal}
+
+-- a level has a variable at each state
+own-some : (fam : Family) → 1 ≤ ownCount fam
+own-some Release = omega arith
+own-some Until = omega arith
+own-some Eventually = omega arith
+own-some Always = omega arith
 
 module _ (n : ℕ) where
   -- the words of one node more
@@ -39,11 +48,13 @@ module _ (n : ℕ) where
   size-cost e (conjunction a b) = zero-le
   size-cost e (disjunction a b) = zero-le
   size-cost e (next q a) = zero-le
-  size-cost e (release q a b) = go n refl
+  size-cost e (fixpoint fam q a b) = go n refl
     where
-      go : (m : ℕ) → n ≡ m → 2 * (n - 1) ≤ n + n * (e + 3 * n)
+      go : (m : ℕ) → n ≡ m → 2 * (n - 1) ≤ n + n * (e + ownCount fam * n)
       go zero h = omega arith
-      go (suc m) h = omega (arith, le-mul-of-pos-right {m = e + 3 * n} n (omega arith))
+      go (suc m) h =
+          let some : 1 ≤ e + ownCount fam * n = omega (arith, le-mul-of-pos-right {m = n} (ownCount fam) (omega arith), own-some fam) in
+          omega (arith, le-mul-of-pos-right {m = e + ownCount fam * n} n some)
 
   sizes-costs : (e : ℕ) (xs : List Node) → levelSizes n xs ≤ costs n e xs
   unfolding levelSizes costs
@@ -67,9 +78,9 @@ level-apart T i k l h =
     omega (arith, base-next T i (omega arith), sizes-up (length (T .states)) (T .nodes) (i + 1) k (omega arith))
 
 -- and all of them before the end
-pub level-place : (T : Table) (i : ℕ) (q : Quantifier) (a b : ℕ) → i < length (T .nodes) → operatorOf (nodeAt T i) ≡ release q a b
+pub level-place : (T : Table) (i : ℕ) (fam : Family) (q : Quantifier) (a b : ℕ) → i < length (T .nodes) → operatorOf (nodeAt T i) ≡ fixpoint fam q a b
     → levelBase T i + 2 * (length (T .states) - 1) ≤ levelTotal T
-level-place T i q a b h e =
+level-place T i fam q a b h e =
     let n = length (T .states) in
     let ends : levelBase T (i + 1) ≡ levelBase T i + 2 * (n - 1) = base-next T i h ∙ ap (λ (o : Operator). levelBase T i + levelSize n o) e in
     let all : levelBase T (length (T .nodes)) ≡ levelTotal T = ap (levelSizes n) (take-all (length (T .nodes)) (T .nodes) (omega arith)) in

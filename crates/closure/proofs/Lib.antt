@@ -53,6 +53,7 @@ pub mod AddSound
 pub mod AddPlaces
 pub mod AddLevel
 pub mod RulesSmall
+pub mod JoinClear
 pub mod TurnedRows
 pub mod KeptAdvance
 pub mod PlainAdvance

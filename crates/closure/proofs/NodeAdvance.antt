@@ -16,12 +16,12 @@ use Rattle.table.specs.StateSets.{labelledWord}
 use Rattle.table.specs.Facts.{Wellformed, Packed}
 use Rattle.table.specs.Rows.{targetSet}
 use Rattle.table.proofs.Accepted.{state-read}
-use Rattle.ctl.specs.Rule.{Quantifier, every, some, Operator, constant, atom, negation, conjunction, disjunction, next, release, operatorOf}
+use Rattle.ctl.specs.Rule.{Quantifier, every, some, Operator, constant, atom, negation, conjunction, disjunction, next, fixpoint, operatorOf}
 use Rattle.ctl.proofs.BottomUp.{Below, children-below}
 use Rattle.rows.specs.Row.{ClearAt}
 use Rattle.rows.specs.Rules.{constantRow}
 use Rattle.closure.specs.Dual.{isEvery}
-use Rattle.closure.specs.Knowledge.{Knowledge, knowledge, Sized, levelBase, levelRow}
+use Rattle.closure.specs.Knowledge.{Knowledge, knowledge, Sized, levelBase, secondChild, levelRow}
 use Rattle.propagate.specs.Memory.{Memory, nodePlace, addRow}
 use Rattle.closure.specs.Rest.{labelledSet, constantSet, RestSame, RestBoth, RestNode}
 use Rattle.closure.specs.Advance.{ForcedBy}
@@ -81,8 +81,9 @@ module _ (table : List ℕ) (packed : Packed table) (targets bases : List ℕ)
   -- the last level is the node's own row
   last : (s : ℕ) → ClearAt s (knowledge T M .levels i (suc (length (T .states) - 1))) → ClearAt s (knowledge T M .nodes i)
   last s =
+      let second = secondChild (operatorOf (nodeAt T i)) in
       let top : suc (length (T .states) - 1) ≡ length (T .states) = omega (arith, wf .some-state) in
-      subst (ClearAt s) (ap (levelRow T M i (nodeAt T i .b)) top ∙ level-last T M i (nodeAt T i .b) (wf .some-state))
+      subst (ClearAt s) (ap (levelRow T M i second) top ∙ level-last T M i second (wf .some-state))
 
   node-at : (o : Operator) → operatorOf (nodeAt T i) ≡ o → Below i o
       → Advances T (NodeRest T i o) M (nodeStep table targets bases (length (T .states)) down i o M)
@@ -101,8 +102,8 @@ module _ (table : List ℕ) (packed : Packed table) (targets bases : List ℕ)
   node-at (conjunction a b) op l = pair-at every a b op (omega arith) (omega arith) (eqb a b) refl
   node-at (disjunction a b) op l = pair-at some a b op (omega arith) (omega arith) (eqb a b) refl
   node-at (next q a) op l = advance-so T (λ z s l. (z .0 s l, z .1 s)) (next-advance T wf targets ends M sized i h q a op (omega arith))
-  node-at (release q a b) op l = advance-so T (λ z s l. (λ m k. z m k s l, last s (z (length (T .states) - 1) (omega arith) s l .clear)))
-      (levels-advance T wf targets ends i h q a b op (getD bases i 0) (begins i (omega (arith, wf .few-nodes))) down M sized)
+  node-at (fixpoint fam q a b) op l = advance-so T (λ z s l. (λ m k. z m k s l, last s (z (length (T .states) - 1) (omega arith) s l .clear)))
+      (levels-advance T wf targets ends i h fam q a b op (getD bases i 0) (begins i (omega (arith, wf .few-nodes))) down M sized)
 
   pub node-advance : Advances (tableOf table) (NodeRest (tableOf table) i (operatorOf (nodeAt (tableOf table) i))) M
       (nodeStep table targets bases (length (tableOf table .states)) down i (operatorOf (nodeAt (tableOf table) i)) M)

@@ -8,9 +8,10 @@ use borrow.Author.Tests.{ltb-true}
 use lib.ListN.{length}
 use Rattle.sets.specs.Member.{member, setOf}
 use Rattle.sets.proofs.SetOf.{member-setOf-below}
+use Rattle.table.specs.declared.family.Family.{Family}
 use Rattle.table.specs.Table.{Table, stateAt, nodeAt}
 use Rattle.table.specs.Facts.{Wellformed}
-use Rattle.ctl.specs.Rule.{Quantifier, every, some, Operator, constant, atom, negation, release, operatorOf}
+use Rattle.ctl.specs.Rule.{Quantifier, every, some, Operator, constant, atom, negation, fixpoint, operatorOf}
 use Rattle.circuit.specs.Logic.{Literal, pos}
 use Rattle.circuit.specs.Variables.{Var, level, valueOf, value}
 use Rattle.circuit.specs.Gates.{aheadGate, constantGate}
@@ -108,16 +109,16 @@ module _ (T : Table) (wf : Wellformed T) (S : Literal Var → Type 0) (closed : 
         same-down-in g p sign s m = let k = p sign s m in (k .0, same-down (isEvery q) (pair-one s (k .0)) sign (k .1))
 
     -- level 0 of a fixed-point node is its second child, and level n its own value
-    module _ (q : Quantifier) (a b : ℕ) (e : operatorOf (nodeAt T i) ≡ release q a b) where
+    module _ (fam : Family) (q : Quantifier) (a b : ℕ) (e : operatorOf (nodeAt T i) ≡ fixpoint fam q a b) where
       pub first-in : (x : Row) → RowIn T S (value T b) x → RowIn T S (level i 0) x
       first-in x p = row-in T S _ _
-          (set-each _ (p true) (λ s k. (k .0, one-up (first-gate T wf S closed i h q a b e s (k .0)) (k .1))))
-          (set-each _ (p false) (λ s k. (k .0, one-false (first-gate T wf S closed i h q a b e s (k .0)) (k .1))))
+          (set-each _ (p true) (λ s k. (k .0, one-up (first-gate T wf S closed i h fam q a b e s (k .0)) (k .1))))
+          (set-each _ (p false) (λ s k. (k .0, one-false (first-gate T wf S closed i h fam q a b e s (k .0)) (k .1))))
 
       pub in-first : (x : Row) → RowIn T S (level i 0) x → RowIn T S (value T b) x
       in-first x p = row-in T S _ _
-          (set-each _ (p true) (λ s k. (k .0, one-down (first-gate T wf S closed i h q a b e s (k .0)) (k .1))))
-          (set-each _ (p false) (λ s k. (k .0, one-last (first-gate T wf S closed i h q a b e s (k .0)) (k .1))))
+          (set-each _ (p true) (λ s k. (k .0, one-down (first-gate T wf S closed i h fam q a b e s (k .0)) (k .1))))
+          (set-each _ (p false) (λ s k. (k .0, one-last (first-gate T wf S closed i h fam q a b e s (k .0)) (k .1))))
 
       pub last-in : (x : Row) → RowIn T S (value T i) x → RowIn T S (level i (length (T .states))) x
       last-in x = subst (λ (o : Operator). RowIn T S (valueOf T o i) x) e

@@ -37,6 +37,25 @@ module _ {S : Literal Var → Type 0} {sign : Bool} {g a b : Var} (c : ClosedPai
   right-last p q = and-last c (literal sign b) (List·Memᴰ·tail (List·Memᴰ·head refl)) p
       (each-more _ _ _ (λ other. q) (each-one _ _ (λ other. absurd (other refl))))
 
+-- g is the OR of a and b, of the literals with this sign
+module _ {S : Literal Var → Type 0} {g a b : Var} where
+  pub or-left : (sign : Bool) → ClosedPair S (not sign) g a b → S (literal sign a) → S (literal sign g)
+  or-left true c = left-false c
+  or-left false c = left-false c
+
+  pub or-right : (sign : Bool) → ClosedPair S (not sign) g a b → S (literal sign b) → S (literal sign g)
+  or-right true c = right-false c
+  or-right false c = right-false c
+
+  -- the last input left
+  pub or-left-last : (sign : Bool) → ClosedPair S (not sign) g a b → S (literal sign g) → S (literal (not sign) b) → S (literal sign a)
+  or-left-last true c = left-last c
+  or-left-last false c = left-last c
+
+  pub or-right-last : (sign : Bool) → ClosedPair S (not sign) g a b → S (literal sign g) → S (literal (not sign) a) → S (literal sign b)
+  or-right-last true c = right-last c
+  or-right-last false c = right-last c
+
 -- both inputs are one, and its literal counts once: the value passes both ways
 module _ {S : Literal Var → Type 0} {g a : Var} where
   pub same-up : (sign : Bool) → ClosedPair S sign g a a → (x : Bool) → S (literal x a) → S (literal x g)

@@ -12,7 +12,7 @@ use Rattle.table.specs.Table.{Table}
 use Rattle.table.specs.Facts.{Wellformed}
 use Rattle.table.proofs.Numbers.{neither-less}
 use Rattle.ctl.proofs.Tabulate.{length-tabulate}
-use Rattle.circuit.specs.Variables.{Var, step, kept, node, edge, ahead, either, level, variables, variableCount}
+use Rattle.circuit.specs.Variables.{Var, step, kept, node, edge, ahead, inner, level, variables, variableCount}
 use Rattle.circuit.specs.Gates.{gates}
 use Rattle.circuit.specs.Clauses.{clauses}
 use Rattle.circuit.proofs.Lists.{each-map}
@@ -52,7 +52,7 @@ decode xs =
     let a : ℕ = getD xs 1 0 in
     let b : ℕ = getD xs 2 0 in
     let c : ℕ = getD xs 3 0 in
-    getD (step a ∷ kept a ∷ node a b ∷ edge a b c ∷ ahead a b c ∷ either a b c ∷ level a b c ∷ []) (getD xs 0 0) (step 0)
+    getD (step a ∷ kept a ∷ node a b ∷ edge a b c ∷ ahead a b c ∷ inner a b c ∷ level a b c ∷ []) (getD xs 0 0) (step 0)
 
 decode-code : (v : Var) → decode (code v) ≡ v
 decode-code (step j) = refl
@@ -60,7 +60,7 @@ decode-code (kept s) = refl
 decode-code (node i s) = refl
 decode-code (edge i m j) = refl
 decode-code (ahead i m s) = refl
-decode-code (either i m s) = refl
+decode-code (inner i m s) = refl
 decode-code (level i m s) = refl
 
 -- the test of two codes is whether the variables are equal

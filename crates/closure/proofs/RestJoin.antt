@@ -1,13 +1,16 @@
--- Gates of two inputs at one state, where the rules add nothing: a node that is an AND, and G and the level of a release node.
+-- Gates of two inputs at one state, where the rules add nothing: a node that is an AND, and G and the level of a fixed-point node.
 use Prim.Native.Nat.{ℕ}
-use mathlib.Core.Path.{_≡_}
+use mathlib.Core.Path.{_≡_, refl}
 use mathlib.Core.Bool.{true, false}
 use mathlib.Core.Logic.{inl, inr, ⊎-elim}
 use lib.Bits.{bitAnd, bitOr}
+use Rattle.table.specs.declared.family.Family.{Family}
+use Rattle.table.specs.declared.family.Family.the-variants.{Release, Until, Eventually, Always}
 use Rattle.rows.specs.declared.row.Row.{Row}
 use Rattle.rows.specs.Row.{known, turned, WithinAt, ClearAt}
-use Rattle.rows.specs.Rules.{andOutput, andInput, eitherRow, joinRelease}
+use Rattle.rows.specs.Rules.{andOutput, andInput, eitherRow, joinRelease, joinAlways, joinOf, newOf}
 use Rattle.closure.proofs.RowLaws.{and-true, or-true}
+use Rattle.closure.proofs.TurnedRows.{within-turned, within-left}
 use Rattle.closure.proofs.Says.{AndRow}
 
 -- an AND of two nodes
@@ -33,7 +36,7 @@ module _ (level a b ahead : Row) (s : ℕ) where
   N = joinRelease level a b ahead .ahead
 
   -- N has what was known of it
-  pub ahead-within : WithinAt s ahead N
+  ahead-within : WithinAt s ahead N
   ahead-within true e = or-true (ahead .yes) _ s .1 (inl e)
   ahead-within false e = or-true (ahead .no) _ s .1 (inl e)
 
@@ -82,3 +85,53 @@ module _ (level a b ahead : Row) (s : ℕ) where
       last-left = λ e f. right false (and-true (level .no) (G .yes) s .1 (e, f));
       last-right = either-false-level;
     }
+
+-- ---- a level of always
+
+module _ (level b ahead : Row) (s : ℕ) (clear : ClearAt s level)
+    (up : WithinAt s (joinAlways level b ahead .level) level)
+    (right : WithinAt s (joinAlways level b ahead .b) b) where
+  -- what is known of the level, with what b and N add to it
+  abbrev U : Row
+  U = andOutput level b ahead
+
+  up-has : WithinAt s level U
+  up-has true e = or-true (level .yes) _ s .1 (inl e)
+  up-has false e = or-true (level .no) _ s .1 (inl e)
+
+  -- the level is the AND of b and of N
+  pub always-and : AndRow level b (joinAlways level b ahead .ahead) s
+  always-and = record {
+    up = λ e f. up true (⊎-elim
+        (λ g. or-true (level .yes) _ s .1 (inr (and-true (b .yes) (ahead .yes) s .1 (e, g))))
+        (λ g. g)
+        (or-true (ahead .yes) (U .yes) s .0 f));
+    left = λ e. right true (up-has true e);
+    right = λ e. or-true (ahead .yes) (U .yes) s .1 (inr (up-has true e));
+    no-left = λ e. up false (or-true (level .no) _ s .1 (inr (or-true (b .no) (ahead .no) s .1 (inl e))));
+    no-right = λ e. up false (⊎-elim
+        (λ g. or-true (level .no) _ s .1 (inr (or-true (b .no) (ahead .no) s .1 (inr g))))
+        (λ g. and-true (U .no) (b .yes) s .0 g .0)
+        (or-true (ahead .no) _ s .0 e));
+    last-left = λ e f. ⊎-elim
+        (λ g. right false (and-true (U .no) (ahead .yes) s .1 (up-has false e, g)))
+        (λ g. absurd (clear (up true g) e))
+        (or-true (ahead .yes) (U .yes) s .0 f);
+    last-right = λ e f. or-true (ahead .no) _ s .1 (inr (and-true (U .no) (b .yes) s .1 (up-has false e, f)));
+  }
+
+-- ---- a level of any family: for U and F, of the duals of the rows
+
+-- what is taken back of N is what its ends did not say already
+pub joined-more : (fam : Family) (level a b ahead : Row) → joinOf fam level a b ahead .more ≡ newOf (joinOf fam level a b ahead .ahead) ahead
+joined-more Release level a b ahead = refl
+joined-more Until level a b ahead = refl
+joined-more Eventually level a b ahead = refl
+joined-more Always level a b ahead = refl
+
+-- N has what was known of it
+pub joined-ahead : (fam : Family) (level a b ahead : Row) (s : ℕ) → WithinAt s ahead (joinOf fam level a b ahead .ahead)
+joined-ahead Release level a b ahead s = ahead-within level a b ahead s
+joined-ahead Until level a b ahead s = within-turned false _ _ s (ahead-within (turned false level) (turned false a) (turned false b) (turned false ahead) s)
+joined-ahead Eventually level a b ahead s = within-turned false _ _ s (within-left (turned false ahead) _ s)
+joined-ahead Always level a b ahead s = within-left ahead _ s

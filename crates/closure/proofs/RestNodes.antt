@@ -6,7 +6,7 @@ use lib.ListN.{length}
 use Rattle.sets.specs.Member.{member}
 use Rattle.table.specs.Table.{Table, stateAt, nodeAt}
 use Rattle.table.specs.Facts.{Wellformed}
-use Rattle.ctl.specs.Rule.{every, some, Operator, constant, atom, negation, conjunction, disjunction, next, release, operatorOf}
+use Rattle.ctl.specs.Rule.{every, some, Operator, constant, atom, negation, conjunction, disjunction, next, fixpoint, operatorOf}
 use Rattle.ctl.proofs.BottomUp.{OfChildren, of-children}
 use Rattle.circuit.specs.Gates.{nodeGates, keptGates, gates}
 use Rattle.circuit.proofs.Lists.{Each, each-append, each-over}
@@ -14,7 +14,7 @@ use Rattle.closure.specs.Knowledge.{Knowledge, Small}
 use Rattle.closure.specs.Rest.{RestNode, Rest}
 use Rattle.closure.proofs.RestAhead.{Good}
 use Rattle.closure.proofs.RestPlain.{constant-good, negation-good, both-good}
-use Rattle.closure.proofs.RestLevels.{next-good, release-good}
+use Rattle.closure.proofs.RestLevels.{next-good, fixpoint-good}
 use Rattle.closure.proofs.RestBackFull.{OfTable}
 use Rattle.closure.proofs.RestKept.{kept-good}
 
@@ -29,7 +29,7 @@ module _ (T : Table) (wf : Wellformed T) (K : Knowledge) (small : Small K) (rest
   node-good i h (conjunction a b) e c r = both-good T wf K rest i h every a b (c .0) (c .1) r
   node-good i h (disjunction a b) e c r = both-good T wf K rest i h some a b (c .0) (c .1) r
   node-good i h (next q a) e c r = next-good T wf K small rest ours i h q a e c r
-  node-good i h (release q a b) e c r = release-good T wf K small rest ours i h q a b e (c .0) (c .1) r
+  node-good i h (fixpoint fam q a b) e c r = fixpoint-good T wf K small rest ours i h fam q a b e (c .0) (c .1) r
 
   -- Every gate's output is what its inputs say, and is not known both ways.
   pub gates-good : Each (Good T K) (gates T)

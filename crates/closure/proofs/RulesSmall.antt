@@ -1,14 +1,17 @@
 -- The rows that the rules make of machine words are machine words.
 use Prim.Native.Nat.{ℕ, _^_, _<_}
 use native.Mathlib.Omega.{arith}
-use mathlib.Core.Bool.{Bool, _&&_}
+use mathlib.Core.Bool.{Bool, true, false, _&&_}
 use lib.Bits.{and-lt, or-lt}
 use Rattle.sets.specs.Member.{member}
 use Rattle.sets.proofs.SetOf.{setOf-lt}
+use Rattle.table.specs.declared.family.Family.{Family}
+use Rattle.table.specs.declared.family.Family.the-variants.{Release, Until, Eventually, Always}
 use Rattle.rows.specs.declared.row.Row.{Row}
-use Rattle.rows.specs.Row.{only}
+use Rattle.rows.specs.declared.joined.Joined.{Joined}
+use Rattle.rows.specs.Row.{turned, only}
 use Rattle.rows.specs.Words.{SmallRow}
-use Rattle.rows.specs.Rules.{row, unmet, aheadRow, lastLeft, backSteps, backEnd, andOutput, andInput, eitherRow, joinRelease, unstruck, keptRow, keptSteps, openStarts, startKept, startRoot, constantRow}
+use Rattle.rows.specs.Rules.{row, unmet, aheadRow, lastLeft, backSteps, backEnd, andOutput, andInput, eitherRow, joinRelease, joinAlways, falls, joinFalling, turnedJoined, joinOf, unstruck, keptRow, keptSteps, openStarts, startKept, startRoot, constantRow}
 use Rattle.closure.proofs.RowLaws.{without-small, cond-small, set-small}
 
 pub none-small : SmallRow (row 0 0)
@@ -43,6 +46,17 @@ output-small g a b G A B = (
 pub input-small : (g b : Row) → SmallRow g → SmallRow b → SmallRow (andInput g b)
 input-small g b G B = (G .0, and-lt 32 (g .no) (b .yes) (G .1) (B .0))
 
+pub turned-small : (e : Bool) (r : Row) → SmallRow r → SmallRow (turned e r)
+turned-small true r h = h
+turned-small false r h = (h .1, h .0)
+
+-- the rows that a level joins
+pub record SmallJoined (J : Joined) : Type 0 where
+  pub level : SmallRow (J .level)
+  pub a : SmallRow (J .a)
+  pub b : SmallRow (J .b)
+  pub ahead : SmallRow (J .ahead)
+
 module _ (l a b N : Row) (L : SmallRow l) (A : SmallRow a) (B : SmallRow b) (H : SmallRow N) where
   pub either-small : SmallRow (eitherRow l a b N)
   either-small = (
@@ -50,20 +64,42 @@ module _ (l a b N : Row) (L : SmallRow l) (A : SmallRow a) (B : SmallRow b) (H :
     or-lt 32 _ _ (and-lt 32 (a .no) (N .no) (A .1) (H .1)) (and-lt 32 (l .no) (b .yes) (L .1) (B .0)),
   )
 
-  pub join-level-small : SmallRow (joinRelease l a b N .level)
-  join-level-small = (and-lt 32 (b .yes) _ (B .0) (either-small .0), or-lt 32 (b .no) _ (B .1) (either-small .1))
+  pub release-small : SmallJoined (joinRelease l a b N)
+  release-small = record {
+    level = (and-lt 32 (b .yes) _ (B .0) (either-small .0), or-lt 32 (b .no) _ (B .1) (either-small .1));
+    a = (and-lt 32 _ (N .no) (either-small .0) (H .1), either-small .1);
+    b = (L .0, and-lt 32 (l .no) _ (L .1) (either-small .0));
+    ahead = (or-lt 32 (N .yes) _ (H .0) (and-lt 32 _ (a .no) (either-small .0) (A .1)), or-lt 32 (N .no) _ (H .1) (either-small .1));
+  }
 
-  pub join-a-small : SmallRow (joinRelease l a b N .a)
-  join-a-small = (and-lt 32 _ (N .no) (either-small .0) (H .1), either-small .1)
+pub always-small : (l b N : Row) → SmallRow l → SmallRow b → SmallRow N → SmallJoined (joinAlways l b N)
+always-small l b N L B H =
+    let up = output-small l b N L B H in
+    let back = input-small (andOutput l b N) b up B in
+    record {
+      level = up;
+      a = none-small;
+      b = input-small (andOutput l b N) N up H;
+      ahead = (or-lt 32 (N .yes) _ (H .0) (back .0), or-lt 32 (N .no) _ (H .1) (back .1));
+    }
 
-  pub join-b-small : SmallRow (joinRelease l a b N .b)
-  join-b-small = (L .0, and-lt 32 (l .no) _ (L .1) (either-small .0))
+turned-joined-small : (e : Bool) (J : Joined) → SmallJoined J → SmallJoined (turnedJoined e J)
+turned-joined-small e J small = record {
+  level = turned-small e (J .level) (small .level);
+  a = turned-small e (J .a) (small .a);
+  b = turned-small e (J .b) (small .b);
+  ahead = turned-small e (J .ahead) (small .ahead);
+}
 
-  pub join-ahead-small : SmallRow (joinRelease l a b N .ahead)
-  join-ahead-small = (
-    or-lt 32 (N .yes) _ (H .0) (and-lt 32 _ (a .no) (either-small .0) (A .1)),
-    or-lt 32 (N .no) _ (H .1) (either-small .1),
-  )
+module _ (fam : Family) (l a b N : Row) (L : SmallRow l) (A : SmallRow a) (B : SmallRow b) (H : SmallRow N) where
+  pub join-small : SmallJoined (joinOf fam l a b N)
+  join-small = turned-joined-small (falls fam) _ (go fam)
+    where
+      go : (fam : Family) → SmallJoined (joinFalling fam (turned (falls fam) l) (turned (falls fam) a) (turned (falls fam) b) (turned (falls fam) N))
+      go Release = release-small l a b N L A B H
+      go Until = release-small _ _ _ _ (turned-small false l L) (turned-small false a A) (turned-small false b B) (turned-small false N H)
+      go Eventually = always-small _ _ _ (turned-small false l L) (turned-small false b B) (turned-small false N H)
+      go Always = always-small l b N L B H
 
 -- ---- K and the initial states
 

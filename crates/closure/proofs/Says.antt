@@ -5,17 +5,18 @@ use mathlib.Core.Path.{_≡_, sym, ap₂, _∙_}
 use mathlib.Core.Bool.{Bool, true, false, not, cond}
 use mathlib.Core.List.{[], _∷_}
 use lib.Bits.{bitAnd, bitOr}
+use Rattle.table.specs.declared.family.Family.{Family}
 use Rattle.table.specs.Table.{Table, stepAt, nodeAt}
 use Rattle.table.specs.Rows.{targetSet}
-use Rattle.ctl.specs.Rule.{Quantifier, Operator, constant, atom, negation, conjunction, disjunction, next, release, operatorOf}
+use Rattle.ctl.specs.Rule.{Quantifier, Operator, constant, atom, negation, conjunction, disjunction, next, fixpoint, operatorOf}
 use Rattle.circuit.specs.Logic.{Literal, opposite}
-use Rattle.circuit.specs.Variables.{Var, step, kept, node, edge, ahead, either, level}
+use Rattle.circuit.specs.Variables.{Var, step, kept, node, edge, ahead, inner, level}
 use Rattle.rows.specs.declared.row.Row.{Row}
 use Rattle.rows.specs.Row.{known, turned, WithinAt}
-use Rattle.rows.specs.Rules.{row, eitherRow, joinRelease}
+use Rattle.rows.specs.Rules.{row}
 use Rattle.closure.specs.Dual.{isEvery}
 use Rattle.closure.specs.Knowledge.{Knowledge}
-use Rattle.closure.specs.Rest.{aheadOf}
+use Rattle.closure.specs.Rest.{joinLevel, innerLevel}
 use Rattle.closure.proofs.TurnedRows.{turned-known, turned-opposite}
 use Rattle.closure.proofs.AndClosed.{AndRules, one-rules, two-rules}
 
@@ -26,7 +27,7 @@ placeOf T (kept s) = s
 placeOf T (node i s) = s
 placeOf T (edge i m j) = stepAt T j .to
 placeOf T (ahead i m s) = s
-placeOf T (either i m s) = s
+placeOf T (inner i m s) = s
 placeOf T (level i m s) = s
 
 -- ---- rows that are not stored
@@ -40,14 +41,14 @@ abbrev pub nothing : Row
 nothing = row 0 0
 
 -- of a node that has levels, and of no other
-abbrev pub ofLevels : Operator → (Quantifier → ℕ → ℕ → Row) → Row
+abbrev pub ofLevels : Operator → (Family → Quantifier → ℕ → ℕ → Row) → Row
 ofLevels (constant b) f = nothing
 ofLevels (atom p) f = nothing
 ofLevels (negation a) f = nothing
 ofLevels (conjunction a b) f = nothing
 ofLevels (disjunction a b) f = nothing
 ofLevels (next q a) f = nothing
-ofLevels (release q a b) f = f q a b
+ofLevels (fixpoint fam q a b) f = f fam q a b
 
 -- at state s the row g is the AND of x and y, as far as they are known
 pub record AndRow (g x y : Row) (s : ℕ) : Type 0 where
@@ -65,13 +66,9 @@ module _ (T : Table) (K : Knowledge) where
   edgesOver q over end s = turned (isEvery q)
       (edgeRow (targetSet (T .steps) s) (K .steps s) (turned (isEvery q) end) (known (turned (isEvery q) over) true s))
 
-  -- N of level m of a release node
-  abbrev pub aheadLevel : Quantifier → ℕ → ℕ → ℕ → ℕ → Row
-  aheadLevel q i a b m = joinRelease (K .levels i m) (K .nodes a) (K .nodes b) (aheadOf T K q (K .levels i (pred m))) .ahead
-
-  -- and G
-  abbrev pub eitherLevel : Quantifier → ℕ → ℕ → ℕ → ℕ → Row
-  eitherLevel q i a b m = eitherRow (K .levels i m) (K .nodes a) (K .nodes b) (aheadOf T K q (K .levels i (pred m)))
+  -- N of level m of a fixed-point node
+  abbrev pub aheadLevel : Family → Quantifier → ℕ → ℕ → ℕ → ℕ → Row
+  aheadLevel fam q i a b m = joinLevel T K fam q a b (K .levels i m) (K .levels i (pred m)) .ahead
 
   -- the step gates of node i, whose operator is given, at level m out of state s
   unfoldable pub edgesAt : Operator → ℕ → ℕ → ℕ → Row
@@ -81,14 +78,14 @@ module _ (T : Table) (K : Knowledge) where
   edgesAt (conjunction a b) i m s = nothing
   edgesAt (disjunction a b) i m s = nothing
   edgesAt (next q a) i m s = edgesOver q (K .nodes i) (K .nodes a) s
-  edgesAt (release q a b) i m s = edgesOver q (aheadLevel q i a b m) (K .levels i (pred m)) s
+  edgesAt (fixpoint fam q a b) i m s = edgesOver q (aheadLevel fam q i a b m) (K .levels i (pred m)) s
 
   -- its N, and its G
   unfoldable pub aheadAt : Operator → ℕ → ℕ → Row
-  aheadAt o i m = ofLevels o (λ q a b. aheadLevel q i a b m)
+  aheadAt o i m = ofLevels o (λ fam q a b. aheadLevel fam q i a b m)
 
-  unfoldable pub eitherAt : Operator → ℕ → ℕ → Row
-  eitherAt o i m = ofLevels o (λ q a b. eitherLevel q i a b m)
+  unfoldable pub innerAt : Operator → ℕ → ℕ → Row
+  innerAt o i m = ofLevels o (λ fam q a b. innerLevel T K fam q a b (K .levels i m) (K .levels i (pred m)))
 
   -- ---- the row of a variable
 
@@ -98,7 +95,7 @@ module _ (T : Table) (K : Knowledge) where
   rowOf (node i s) = K .nodes i
   rowOf (edge i m j) = edgesAt (operatorOf (nodeAt T i)) i m (stepAt T j .from)
   rowOf (ahead i m s) = aheadAt (operatorOf (nodeAt T i)) i m
-  rowOf (either i m s) = eitherAt (operatorOf (nodeAt T i)) i m
+  rowOf (inner i m s) = innerAt (operatorOf (nodeAt T i)) i m
   rowOf (level i m s) = K .levels i m
 
   -- the literal is known

@@ -1,11 +1,12 @@
 -- Sets all of whose members have P, and rows made of two such sets: of variables by state, and of steps by their ends.
 use Prim.Native.Nat.{ℕ, _^_, _<_}
 use mathlib.Core.Path.{_≡_, sym, subst, _∙_}
-use mathlib.Core.Bool.{Bool, true, false, not, cond}
+use mathlib.Core.Bool.{Bool, true, false, not, cond, false≢true}
 use mathlib.Core.Logic.{⊎-elim}
 use lib.Bits.{bitAnd, bitOr}
 use lib.ListN.{length}
 use Rattle.sets.specs.Member.{member, setOf}
+use Rattle.sets.proofs.Laws.{member-zero}
 use Rattle.table.specs.Table.{Table, stepAt}
 use Rattle.table.specs.Facts.{Wellformed}
 use Rattle.table.proofs.Bools.{not-so}
@@ -20,6 +21,9 @@ use Rattle.closure.proofs.Ends.{same-ends}
 -- each member of the set has P
 abbrev pub SetIn : (ℕ → Type 0) → ℕ → Type 0
 SetIn P x = (s : ℕ) → member x s ≡ true → P s
+
+pub set-none : (P : ℕ → Type 0) → SetIn P 0
+set-none P s m = absurd (false≢true (sym (member-zero s) ∙ m))
 
 pub set-each : {P Q : ℕ → Type 0} (x : ℕ) → SetIn P x → ((s : ℕ) → P s → Q s) → SetIn Q x
 set-each x p f s m = f s (p s m)

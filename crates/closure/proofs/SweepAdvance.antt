@@ -14,11 +14,11 @@ use Rattle.table.specs.Table.{Table, tableOf, nodeAt}
 use Rattle.table.specs.Facts.{Wellformed, Packed}
 use Rattle.table.proofs.Accepted.{accepted}
 use Rattle.table.proofs.Bools.{or-parts}
-use Rattle.ctl.specs.Rule.{operatorOf}
+use Rattle.ctl.specs.Rule.{Operator, operatorOf}
 use Rattle.closure.specs.declared.net.Net.{Net}
 use Rattle.rows.specs.declared.row.Report.{Report}
 use Rattle.rows.specs.Words.{rowAt, quiet}
-use Rattle.closure.specs.Knowledge.{Knowledge, knowledge, Sized}
+use Rattle.closure.specs.Knowledge.{Knowledge, knowledge, Sized, secondChild}
 use Rattle.propagate.specs.Memory.{Memory, nodePlace, Stepped, Visit, eachBelow}
 use Rattle.closure.specs.Rest.{RestKept, RestStart, Rest}
 use Rattle.closure.specs.Setting.{netOf, Setting}
@@ -29,7 +29,7 @@ use Rattle.closure.proofs.RowLaws.{set-true}
 use Rattle.closure.proofs.Visits.{visit-resting, visit-node}
 use Rattle.closure.proofs.KeptAdvance.{kept-advance, start-advance}
 use Rattle.closure.proofs.NodeAdvance.{NodeRest, Resting, none-rest, node-advance}
-use Rattle.closure.proofs.InsideParts.{release-b, level-last}
+use Rattle.closure.proofs.InsideParts.{level-last}
 
 module _ (table : List ℕ) (net : Net) (targets bases : List ℕ) (setting : Setting table net targets bases) (down : Bool) where
   abbrev T : Table
@@ -94,8 +94,8 @@ module _ (table : List ℕ) (net : Net) (targets bases : List ℕ) (setting : Se
     start = start;
     nodes = λ i l s k. nodes i l s k .0;
     clear = λ i l s k. nodes i l s k .1;
-    first = λ i q a b l e. ap (λ (k : ℕ). rowAt (M .rows) (nodePlace k)) (release-b (nodeAt T i) q a b e);
-    last = λ i q a b l e. level-last T M i (nodeAt T i .b) (wf .some-state);
+    first = λ i fam q a b l e. ap (λ (o : Operator). rowAt (M .rows) (nodePlace (secondChild o))) e;
+    last = λ i fam q a b l e. level-last T M i (secondChild (operatorOf (nodeAt T i))) (wf .some-state);
   }
 
   -- what a sweep does, and which nodes it leaves at rest

@@ -3,8 +3,9 @@ use Prim.Native.Nat.{ℕ, _≤_, _<_}
 use mathlib.Core.Path.{_≡_}
 use mathlib.Core.Bool.{Bool, true, false}
 use lib.ListN.{length}
+use Rattle.table.specs.declared.family.Family.{Family}
 use Rattle.table.specs.Table.{Table, stepAt, nodeAt}
-use Rattle.ctl.specs.Rule.{Quantifier, release, operatorOf}
+use Rattle.ctl.specs.Rule.{Quantifier, fixpoint, operatorOf}
 use Rattle.circuit.specs.Logic.{Literal}
 use Rattle.circuit.specs.Variables.{Var, step, kept, level, value}
 use Rattle.rows.specs.declared.row.Row.{Row}
@@ -28,7 +29,7 @@ module _ (T : Table) (S : Literal Var → Type 0) where
     pub steps : (s : ℕ) → s < length (T .states) → StepsIn s (K .steps s)
     pub kept : RowIn kept (K .kept)
     pub nodes : (i : ℕ) → i < length (T .nodes) → RowIn (value T i) (K .nodes i)
-    pub levels : (i : ℕ) (q : Quantifier) (a b m : ℕ) → i < length (T .nodes) → operatorOf (nodeAt T i) ≡ release q a b → m ≤ length (T .states)
+    pub levels : (i : ℕ) (fam : Family) (q : Quantifier) (a b m : ℕ) → i < length (T .nodes) → operatorOf (nodeAt T i) ≡ fixpoint fam q a b → m ≤ length (T .states)
         → RowIn (level i m) (K .levels i m)
 
   -- a variable of the table is in the set both ways

@@ -8,7 +8,7 @@ use lib.Dec.{eqb}
 use lib.ListN.{length, getD, take}
 use Rattle.table.specs.Table.{Table, nodeAt}
 use Rattle.table.specs.declared.record.Node.{Node}
-use Rattle.ctl.specs.Rule.{Operator, constant, atom, negation, conjunction, disjunction, next, release, operatorOf}
+use Rattle.ctl.specs.Rule.{Operator, constant, atom, negation, conjunction, disjunction, next, fixpoint, operatorOf}
 use Rattle.rows.specs.declared.row.Row.{Row}
 use Rattle.rows.specs.Words.{rowAt, SmallRow, stepPlace}
 use Rattle.propagate.specs.Memory.{Memory, nodePlace, keptPlace}
@@ -21,7 +21,7 @@ levelSize n (negation a) = 0
 levelSize n (conjunction a b) = 0
 levelSize n (disjunction a b) = 0
 levelSize n (next q a) = 0
-levelSize n (release q a b) = 2 * (n - 1)
+levelSize n (fixpoint fam q a b) = 2 * (n - 1)
 
 unfoldable pub levelSizes : ℕ → List Node → ℕ
 levelSizes n [] = 0
@@ -50,6 +50,16 @@ pub record Small (K : Knowledge) : Type 0 where
   pub nodes : (i : ℕ) → SmallRow (K .nodes i)
   pub levels : (i m : ℕ) → SmallRow (K .levels i m)
 
+-- the second child of a fixed-point node
+abbrev pub secondChild : Operator → ℕ
+secondChild (constant b) = 0
+secondChild (atom p) = 0
+secondChild (negation a) = 0
+secondChild (conjunction a b) = 0
+secondChild (disjunction a b) = 0
+secondChild (next q a) = 0
+secondChild (fixpoint fam q a b) = b
+
 -- level m of node i, whose second child is b
 abbrev pub levelRow : Table → Memory → ℕ → ℕ → ℕ → Row
 levelRow T M i b m = cond (eqb m 0) (rowAt (M .rows) (nodePlace b))
@@ -60,7 +70,7 @@ knowledge T M = record {
   steps = λ s. rowAt (M .rows) (stepPlace s);
   kept = rowAt (M .rows) keptPlace;
   nodes = λ i. rowAt (M .rows) (nodePlace i);
-  levels = λ i m. levelRow T M i (nodeAt T i .b) m;
+  levels = λ i m. levelRow T M i (secondChild (operatorOf (nodeAt T i))) m;
 }
 
 -- the memory has the size that the rows need, and its entries are words

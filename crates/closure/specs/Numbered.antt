@@ -5,7 +5,7 @@ use mathlib.Core.List.{List, [], _∷_, map}
 use lib.Dec.{eqb}
 use Rattle.table.specs.Table.{Table}
 use Rattle.circuit.specs.Logic.{Literal}
-use Rattle.circuit.specs.Variables.{Var, step, kept, node, edge, ahead, either, level, variables}
+use Rattle.circuit.specs.Variables.{Var, step, kept, node, edge, ahead, inner, level, variables}
 use Rattle.circuit.specs.Clauses.{clauses}
 
 -- a variable as a list of numbers, to compare by
@@ -15,7 +15,7 @@ code (kept s) = 1 ∷ s ∷ []
 code (node i s) = 2 ∷ i ∷ s ∷ []
 code (edge i m j) = 3 ∷ i ∷ m ∷ j ∷ []
 code (ahead i m s) = 4 ∷ i ∷ m ∷ s ∷ []
-code (either i m s) = 5 ∷ i ∷ m ∷ s ∷ []
+code (inner i m s) = 5 ∷ i ∷ m ∷ s ∷ []
 code (level i m s) = 6 ∷ i ∷ m ∷ s ∷ []
 
 unfoldable pub sameCode : List ℕ → List ℕ → Bool

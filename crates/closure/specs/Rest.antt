@@ -6,12 +6,14 @@ use mathlib.Core.Bool.{Bool, true, false, cond}
 use lib.Dec.{eqb}
 use lib.ListN.{length}
 use Rattle.sets.specs.Member.{member, setOf}
+use Rattle.table.specs.declared.family.Family.{Family}
 use Rattle.table.specs.Table.{Table, stateAt, nodeAt}
 use Rattle.table.specs.Rows.{targetSet}
-use Rattle.ctl.specs.Rule.{Quantifier, every, some, Operator, constant, atom, negation, conjunction, disjunction, next, release, operatorOf, rootIndex}
+use Rattle.ctl.specs.Rule.{Quantifier, every, some, Operator, constant, atom, negation, conjunction, disjunction, next, fixpoint, operatorOf, rootIndex}
 use Rattle.rows.specs.declared.row.Row.{Row}
+use Rattle.rows.specs.declared.joined.Joined.{Joined}
 use Rattle.rows.specs.Row.{known, turned, WithinAt, Within, ClearAt}
-use Rattle.rows.specs.Rules.{aheadRow, backSteps, backEnd, andOutput, andInput, eitherRow, joinRelease, newOf, keptRow, keptSteps, openStarts, startKept, startRoot, constantRow}
+use Rattle.rows.specs.Rules.{aheadRow, backSteps, backEnd, andOutput, andInput, joinOf, innerOf, newOf, keptRow, keptSteps, openStarts, startKept, startRoot, constantRow}
 use Rattle.closure.specs.Dual.{isEvery}
 use Rattle.closure.specs.Knowledge.{Knowledge}
 
@@ -61,14 +63,22 @@ module _ (T : Table) (K : Knowledge) where
     pub up : WithinAt s q r
     pub down : WithinAt s r q
 
-  -- a level over the one below it, by their rows, at state s
-  pub record RestLevel (q : Quantifier) (a b : ℕ) (level below : Row) (s : ℕ) : Type 0 where
-    pub either-clear : ClearAt s (eitherRow level (K .nodes a) (K .nodes b) (aheadOf q below))
-    pub ahead-clear : ClearAt s (joinRelease level (K .nodes a) (K .nodes b) (aheadOf q below) .ahead)
-    pub up : WithinAt s (joinRelease level (K .nodes a) (K .nodes b) (aheadOf q below) .level) level
-    pub left : WithinAt s (joinRelease level (K .nodes a) (K .nodes b) (aheadOf q below) .a) (K .nodes a)
-    pub right : WithinAt s (joinRelease level (K .nodes a) (K .nodes b) (aheadOf q below) .b) (K .nodes b)
-    pub back : RestBack q (joinRelease level (K .nodes a) (K .nodes b) (aheadOf q below) .more) below s
+  -- what a level of a fixed-point node joins over the one below it, by their rows
+  abbrev pub joinLevel : Family → Quantifier → ℕ → ℕ → Row → Row → Joined
+  joinLevel fam q a b level below = joinOf fam level (K .nodes a) (K .nodes b) (aheadOf q below)
+
+  -- and what it has for G
+  abbrev pub innerLevel : Family → Quantifier → ℕ → ℕ → Row → Row → Row
+  innerLevel fam q a b level below = innerOf fam level (K .nodes a) (K .nodes b) (aheadOf q below)
+
+  -- a level over the one below it, at state s
+  pub record RestLevel (fam : Family) (q : Quantifier) (a b : ℕ) (level below : Row) (s : ℕ) : Type 0 where
+    pub inner-clear : ClearAt s (innerLevel fam q a b level below)
+    pub ahead-clear : ClearAt s (joinLevel fam q a b level below .ahead)
+    pub up : WithinAt s (joinLevel fam q a b level below .level) level
+    pub left : WithinAt s (joinLevel fam q a b level below .a) (K .nodes a)
+    pub right : WithinAt s (joinLevel fam q a b level below .b) (K .nodes b)
+    pub back : RestBack q (joinLevel fam q a b level below .more) below s
     pub clear : ClearAt s level
 
   -- node i, whose operator is given, at state s
@@ -79,7 +89,7 @@ module _ (T : Table) (K : Knowledge) where
   RestNode i (conjunction a b) s = cond (eqb a b) (RestSame (K .nodes i) (K .nodes a) s) (RestBoth every i a b s)
   RestNode i (disjunction a b) s = cond (eqb a b) (RestSame (K .nodes i) (K .nodes a) s) (RestBoth some i a b s)
   RestNode i (next q a) s = WithinAt s (aheadOf q (K .nodes a)) (K .nodes i) × RestBack q (newOf (K .nodes i) (aheadOf q (K .nodes a))) (K .nodes a) s
-  RestNode i (release q a b) s = (m : ℕ) → m < length (T .states) → RestLevel q a b (K .levels i (suc m)) (K .levels i m) s
+  RestNode i (fixpoint fam q a b) s = (m : ℕ) → m < length (T .states) → RestLevel fam q a b (K .levels i (suc m)) (K .levels i m) s
 
   pub record Rest : Type 0 where
     pub kept : (s : ℕ) → s < length (T .states) → RestKept s
@@ -87,5 +97,5 @@ module _ (T : Table) (K : Knowledge) where
     pub nodes : (i : ℕ) → i < length (T .nodes) → (s : ℕ) → s < length (T .states) → RestNode i (operatorOf (nodeAt T i)) s
     pub clear : (i : ℕ) → i < length (T .nodes) → (s : ℕ) → s < length (T .states) → ClearAt s (K .nodes i)
     -- level 0 of a fixed-point node is its second child's row, level n its own
-    pub first : (i : ℕ) (q : Quantifier) (a b : ℕ) → i < length (T .nodes) → operatorOf (nodeAt T i) ≡ release q a b → K .levels i 0 ≡ K .nodes b
-    pub last : (i : ℕ) (q : Quantifier) (a b : ℕ) → i < length (T .nodes) → operatorOf (nodeAt T i) ≡ release q a b → K .levels i (length (T .states)) ≡ K .nodes i
+    pub first : (i : ℕ) (fam : Family) (q : Quantifier) (a b : ℕ) → i < length (T .nodes) → operatorOf (nodeAt T i) ≡ fixpoint fam q a b → K .levels i 0 ≡ K .nodes b
+    pub last : (i : ℕ) (fam : Family) (q : Quantifier) (a b : ℕ) → i < length (T .nodes) → operatorOf (nodeAt T i) ≡ fixpoint fam q a b → K .levels i (length (T .states)) ≡ K .nodes i

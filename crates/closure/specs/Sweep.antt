@@ -8,7 +8,7 @@ use lib.ListN.{getD}
 use Rattle.sets.specs.Member.{member, setOf}
 use Rattle.table.specs.Table.{tableOf, nodeAt, statesPart}
 use Rattle.table.specs.StateSets.{labelledWord}
-use Rattle.ctl.specs.Rule.{Operator, constant, atom, negation, conjunction, disjunction, next, release, operatorOf}
+use Rattle.ctl.specs.Rule.{Operator, constant, atom, negation, conjunction, disjunction, next, fixpoint, operatorOf}
 use Rattle.rows.specs.declared.row.Report.{Report}
 use Rattle.closure.specs.declared.net.Net.{Net}
 use Rattle.rows.specs.Rules.{keptRow, keptSteps, openStarts, startKept, startRoot, constantRow}
@@ -28,8 +28,8 @@ module _ (table targets bases : List ℕ) (n : ℕ) (down : Bool) (i : ℕ) wher
   nodeStep (conjunction a b) M = cond (eqb a b) (sameStep i true a M) (bothStep i true a b M)
   nodeStep (disjunction a b) M = cond (eqb a b) (sameStep i true a M) (bothStep i false a b M)
   nodeStep (next q a) M = nextStep targets n i (isEvery q) a M
-  nodeStep (release q a b) M =
-      levelsFrom targets n (fixpointAt i (isEvery q) a b (getD bases i 0)) down n M .done
+  nodeStep (fixpoint fam q a b) M =
+      levelsFrom targets n (fixpointAt fam i (isEvery q) a b (getD bases i 0)) down n M .done
 
 -- ---- K and the initial states
 

@@ -22,7 +22,7 @@ fn level_size(kind: usize, n: usize) -> usize
     ensures { λ r. ⌜ ((a b : ℕ) → r ≡ levelSize n (getD (operators a b) kind (constant false))) ⌝ }
 {
     match kind {
-        8 | 9 => 2 * (n - 1),
+        8 | 9 | 10 | 11 | 12 | 13 | 14 | 15 => 2 * (n - 1),
         _ => 0,
     }
 }

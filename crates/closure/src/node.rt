@@ -1,12 +1,14 @@
 // The rules of a node, by its kind.
 use propagate::add_node;
+use propagate::fixpoint_step;
 use propagate::next_step;
 use propagate::pair_step;
-use propagate::release_step;
 use propagate::same_step;
 use rows::Report;
 use rows::constant_row;
 use table::Node;
+use table::family_of;
+use table::second_child;
 ghost use mathlib.Core.Path.{_≡_};
 ghost use mathlib.Core.List.{List};
 ghost use Prim.Native.Nat.{ℕ, _+_, _*_, _-_, _≤_, _<_};
@@ -32,8 +34,10 @@ pub fn node_step(
     ensures { λ q. ⌜ ((bases : List ℕ) → getD bases i 0 ≡ base → stepped (now (rows .exit)) (now (words .exit)) q ≡ nodeStep (now (table .entry)) (now (targets .entry)) bases n down i (operatorOf x) (memory (now (rows .entry)) (now (words .entry)))) ⌝ }
 {
     let kind = x.kind;
+    // from kind 6 on, an even kind is of every path
+    let every = kind % 2 == 0;
     let a = x.a;
-    let b = x.b;
+    let b = second_child(x);
     match kind {
         1 => add_node(rows, i, constant_row(n, sets::below(n))),
         2 => {
@@ -43,10 +47,11 @@ pub fn node_step(
         3 => same_step(rows, i, false, a),
         4 => pair_step(rows, i, true, a, b),
         5 => pair_step(rows, i, false, a, b),
-        6 => next_step(targets, rows, n, i, true, a),
-        7 => next_step(targets, rows, n, i, false, a),
-        8 => release_step(targets, rows, words, n, base, i, true, a, b, down),
-        9 => release_step(targets, rows, words, n, base, i, false, a, b, down),
+        6 | 7 => next_step(targets, rows, n, i, every, a),
+        8 | 9 | 10 | 11 | 12 | 13 | 14 | 15 => {
+            let family = family_of(kind);
+            fixpoint_step(targets, rows, words, n, base, family, i, every, a, b, down)
+        }
         _ => add_node(rows, i, constant_row(n, 0)),
     }
 }

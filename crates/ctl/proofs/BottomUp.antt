@@ -13,7 +13,7 @@ use Rattle.table.specs.declared.record.Node.{Node}
 use Rattle.table.specs.Table.{Table, zeroNode, nodeAt}
 use Rattle.table.specs.Accept.{shapeOf, fieldsFit}
 use Rattle.table.specs.Facts.{Wellformed}
-use Rattle.ctl.specs.Rule.{Operator, constant, atom, negation, conjunction, disjunction, next, release, operatorOf, bottomUp}
+use Rattle.ctl.specs.Rule.{Operator, constant, atom, negation, conjunction, disjunction, next, fixpoint, operatorOf, bottomUp}
 
 -- ---- the values, one behind the other
 
@@ -85,7 +85,7 @@ OfChildren P (negation a) = P a
 OfChildren P (conjunction a b) = P a × P b
 OfChildren P (disjunction a b) = P a × P b
 OfChildren P (next q a) = P a
-OfChildren P (release q a b) = P a × P b
+OfChildren P (fixpoint f q a b) = P a × P b
 
 -- each child of the operator is a number below i
 abbrev pub Below : ℕ → Operator → Type 0
@@ -99,7 +99,7 @@ of-below i (negation a) h all = all a h
 of-below i (conjunction a b) h all = (all a (h .0), all b (h .1))
 of-below i (disjunction a b) h all = (all a (h .0), all b (h .1))
 of-below i (next q a) h all = all a h
-of-below i (release q a b) h all = (all a (h .0), all b (h .1))
+of-below i (fixpoint f q a b) h all = (all a (h .0), all b (h .1))
 
 unary-below : (i a b : ℕ) → ltb a i && eqb b 0 ≡ true → a < i
 unary-below i a b e = ltb-true a i (and-eq-true-iff (ltb a i) (eqb b 0) .0 e .0)
@@ -107,7 +107,7 @@ unary-below i a b e = ltb-true a i (and-eq-true-iff (ltb a i) (eqb b 0) .0 e .0)
 binary-below : (i a b : ℕ) → ltb a i && ltb b i ≡ true → (a < i) × (b < i)
 binary-below i a b e = let r = and-eq-true-iff (ltb a i) (ltb b i) .0 e in (ltb-true a i (r .0), ltb-true b i (r .1))
 
--- fields that fit give children below i: kinds 0 to 9, and every later one
+-- fields that fit give children below i: kinds 0 to 15, and every later one
 fields-below : (p i kind a b : ℕ) → fieldsFit (shapeOf kind) p i a b ≡ true → Below i (operatorOf (record { kind = kind; a = a; b = b }))
 fields-below p i zero a b e = tt
 fields-below p i (suc zero) a b e = tt
@@ -119,7 +119,13 @@ fields-below p i (suc (suc (suc (suc (suc (suc zero)))))) a b e = unary-below i 
 fields-below p i (suc (suc (suc (suc (suc (suc (suc zero))))))) a b e = unary-below i a b e
 fields-below p i (suc (suc (suc (suc (suc (suc (suc (suc zero)))))))) a b e = binary-below i a b e
 fields-below p i (suc (suc (suc (suc (suc (suc (suc (suc (suc zero))))))))) a b e = binary-below i a b e
-fields-below p i (suc (suc (suc (suc (suc (suc (suc (suc (suc (suc kind)))))))))) a b e = tt
+fields-below p i (suc (suc (suc (suc (suc (suc (suc (suc (suc (suc zero)))))))))) a b e = binary-below i a b e
+fields-below p i (suc (suc (suc (suc (suc (suc (suc (suc (suc (suc (suc zero))))))))))) a b e = binary-below i a b e
+fields-below p i (suc (suc (suc (suc (suc (suc (suc (suc (suc (suc (suc (suc zero)))))))))))) a b e = let h = unary-below i a b e in (h, h)
+fields-below p i (suc (suc (suc (suc (suc (suc (suc (suc (suc (suc (suc (suc (suc zero))))))))))))) a b e = let h = unary-below i a b e in (h, h)
+fields-below p i (suc (suc (suc (suc (suc (suc (suc (suc (suc (suc (suc (suc (suc (suc zero)))))))))))))) a b e = let h = unary-below i a b e in (h, h)
+fields-below p i (suc (suc (suc (suc (suc (suc (suc (suc (suc (suc (suc (suc (suc (suc (suc zero))))))))))))))) a b e = let h = unary-below i a b e in (h, h)
+fields-below p i (suc (suc (suc (suc (suc (suc (suc (suc (suc (suc (suc (suc (suc (suc (suc (suc kind)))))))))))))))) a b e = tt
 
 -- the children of a node of a table have lower numbers than it
 pub children-below : (T : Table) → Wellformed T → (i : ℕ) → i < length (T .nodes) → Below i (operatorOf (nodeAt T i))

@@ -1,11 +1,14 @@
 pub mod Tabulate
 pub mod Select
+pub mod Joined
 pub mod Stable
 pub mod Paths
+pub mod Fixpoint
 pub mod Rank
 pub mod BottomUp
 pub mod Targets
 pub mod Meaning
+pub mod Duals
 pub mod Repair
 pub mod Mistakes
 pub mod OfKind

@@ -3,23 +3,27 @@ use Prim.Native.Nat.{ℕ, zero, suc, _<_}
 use native.Mathlib.Decide.{decLt}
 use native.Mathlib.Omega.{arith}
 use mathlib.Core.Path.{_≡_, refl, sym, _∙_}
-use mathlib.Core.Bool.{Bool, true, false, not, _&&_, _||_, false≢true, and-eq-true-iff}
+use mathlib.Core.Bool.{Bool, true, false, _&&_, _||_, false≢true, and-eq-true-iff}
 use mathlib.Core.Logic.{_↔_, Iff·rfl, Iff·trans, Iff·not, Iff·and, _⊎_, inl, inr, ⊎-elim, ⊎-map}
 use mathlib.Core.List.{List, []}
 use lib.ListN.{length}
+use Rattle.table.specs.declared.family.Family.{Family}
+use Rattle.table.specs.declared.family.Family.the-variants.{Release, Until, Eventually, Always}
 use Rattle.table.specs.Table.{Table, nodeAt}
 use Rattle.table.specs.Facts.{Wellformed}
 use Rattle.ctl.specs.Meaning.{Formula, bottom, Holds}
-use Rattle.ctl.specs.Rule.{Quantifier, every, some, Operator, constant, atom, negation, conjunction, disjunction, next, release, operatorOf, formulaOf, formula}
+use Rattle.ctl.specs.Rule.{Quantifier, every, some, Operator, constant, atom, negation, conjunction, disjunction, next, fixpoint, operatorOf, formulaOf, formula}
 use Rattle.ctl.specs.Kept.{Next, Kept, Total, Labelled, NodeHolds}
-use Rattle.ctl.specs.Levels.{has, iterate, nextIn, level, levels, released}
+use Rattle.ctl.specs.Levels.{has, iterate, nextIn, level, levels}
 use Rattle.ctl.specs.Labels.{marks, targets, isKept, labelOf, label, marked}
 use Rattle.ctl.specs.Exact.{LabelsAreMeaning}
 use Rattle.ctl.proofs.Tabulate.{length-tabulate, getD-tabulate, getD-tabulate-past}
-use Rattle.ctl.proofs.Stable.{level-length}
-use Rattle.ctl.proofs.Paths.{next-every, next-some, release-falls, release-every, release-some}
+use Rattle.ctl.proofs.Joined.{joined-source}
+use Rattle.ctl.proofs.Stable.{level-length, level-mark, level-inside}
+use Rattle.ctl.proofs.Paths.{OnPaths, next-every, next-some}
+use Rattle.ctl.proofs.Fixpoint.{Along, not-true-iff, level-paths}
 use Rattle.ctl.proofs.BottomUp.{OfChildren, Reads, of-children, node-induction, bottomUp-children}
-use Rattle.ctl.proofs.Targets.{targets-sound, targets-complete, is-kept, next-inside}
+use Rattle.ctl.proofs.Targets.{targets-sound, targets-complete, is-kept, next-inside, next-of-kept}
 
 -- ---- the formula and the label of a node, of those of its children
 
@@ -33,8 +37,14 @@ formula-reads (conjunction a b) f g e = rw (e .0, e .1)
 formula-reads (disjunction a b) f g e = rw (e .0, e .1)
 formula-reads (next every a) f g e = rw e
 formula-reads (next some a) f g e = rw e
-formula-reads (release every a b) f g e = rw (e .0, e .1)
-formula-reads (release some a b) f g e = rw (e .0, e .1)
+formula-reads (fixpoint Release every a b) f g e = rw (e .0, e .1)
+formula-reads (fixpoint Release some a b) f g e = rw (e .0, e .1)
+formula-reads (fixpoint Until every a b) f g e = rw (e .0, e .1)
+formula-reads (fixpoint Until some a b) f g e = rw (e .0, e .1)
+formula-reads (fixpoint Eventually every a b) f g e = rw (e .1)
+formula-reads (fixpoint Eventually some a b) f g e = rw (e .1)
+formula-reads (fixpoint Always every a b) f g e = rw (e .1)
+formula-reads (fixpoint Always some a b) f g e = rw (e .1)
 
 -- the formula of a node is made of those of its children
 pub formula-of : (T : Table) → Wellformed T → (i : ℕ) → i < length (T .nodes) → formula T i ≡ formulaOf (operatorOf (nodeAt T i)) (formula T)
@@ -49,7 +59,7 @@ label-reads T list (negation a) f g e = rw e
 label-reads T list (conjunction a b) f g e = rw (e .0, e .1)
 label-reads T list (disjunction a b) f g e = rw (e .0, e .1)
 label-reads T list (next q a) f g e = rw e
-label-reads T list (release q a b) f g e = rw (e .0, e .1)
+label-reads T list (fixpoint k q a b) f g e = rw (e .0, e .1)
 
 -- the set of a node is made of those of its children
 pub label-of : (T : Table) → Wellformed T → (list : List ℕ) (i : ℕ) → i < length (T .nodes)
@@ -73,13 +83,20 @@ module _ (T : Table) (list : List ℕ) where
           is-kept T list s .0 (and-eq-true-iff (isKept T list s) (f s) .0 (sym (getD-tabulate (length (T .states)) _ s false h) ∙ e) .0)
       go s e (no h) = absurd (false≢true (sym (getD-tabulate-past (length (T .states)) _ s false (omega arith)) ∙ e))
 
-  -- each level of release is in the set of b
-  level-set : (q : Quantifier) (A B : List Bool) → KeptSet T list B → (m : ℕ)
-      → KeptSet T list (iterate (level released q (targets T list) (length (T .states)) A B) B m)
+  -- the states of a level are kept: each is one of b's, or a next state leaves it
+  level-set : (f : Family) (q : Quantifier) (A B : List Bool) → KeptSet T list B → (m : ℕ)
+      → KeptSet T list (iterate (level f q (targets T list) (length (T .states)) A B) B m)
   unfolding iterate
-  level-set q A B k zero = k
-  level-set q A B k (suc m) =
-      record { size = level-length released q (targets T list) _ A B _; inside = λ s e. k .inside s (release-falls q (targets T list) _ A B _ s e) }
+  level-set f q A B k zero = k
+  level-set f q A B k (suc m) = record { size = level-length f q (targets T list) _ A B _; inside = λ s e. go s e }
+    where
+      X : List Bool
+      X = iterate (level f q (targets T list) (length (T .states)) A B) B m
+
+      go : (s : ℕ) → has (level f q (targets T list) (length (T .states)) A B X) s ≡ true → Kept T list s
+      go s e = ⊎-elim (k .inside s)
+          (λ x. is-kept T list s .0 (and-eq-true-iff (isKept T list s) _ .0 (sym (next-of-kept q X (targets T list s)) ∙ x) .0))
+          (joined-source f (has A s) (has B s) _ (sym (level-mark f q (targets T list) _ A B X s (level-inside f q (targets T list) _ A B X s e)) ∙ e))
 
   operator-set : (o : Operator) (child : ℕ → List Bool) → OfChildren (λ k. KeptSet T list (child k)) o → KeptSet T list (labelOf T list o child)
   unfolding labelOf levels
@@ -89,7 +106,7 @@ module _ (T : Table) (list : List ℕ) where
   operator-set (conjunction a b) child k = marks-set _
   operator-set (disjunction a b) child k = marks-set _
   operator-set (next q a) child k = marks-set _
-  operator-set (release q a b) child k = level-set q (child a) (child b) (k .1) (length (T .states))
+  operator-set (fixpoint f q a b) child k = level-set f q (child a) (child b) (k .1) (length (T .states))
 
 module _ (T : Table) (wf : Wellformed T) (list : List ℕ) where
   -- the set of a node is a set of kept states, whether or not the list is total
@@ -101,10 +118,6 @@ module _ (T : Table) (wf : Wellformed T) (list : List ℕ) where
   marked-kept i h = label-set i h .inside
 
 -- ---- marks that are read one by one
-
-not-true-iff : (x : Bool) → (not x ≡ true) ↔ ¬ (x ≡ true)
-not-true-iff true = (λ e f. false≢true e, λ f. absurd (f refl))
-not-true-iff false = (λ e. false≢true, λ f. refl)
 
 or-true-iff : (x y : Bool) → (x || y ≡ true) ↔ ((x ≡ true) ⊎ (y ≡ true))
 or-true-iff true y = (λ e. inl refl, λ r. refl)
@@ -139,6 +152,12 @@ module _ (T : Table) (wf : Wellformed T) (list : List ℕ) (total : Total T list
     some-mean s t h = Iff·trans (next-some (Next T list) (targets T list) (targets-sound T list) (targets-complete T list) X s)
         (λ r. (r .0, r .1, next-mean s (r .0) (r .1) .0 (r .2)), λ r. (r .0, r .1, next-mean s (r .0) (r .1) .1 (r .2)))
 
+  -- the levels of a fixed-point kind mean what the kind says of the fullpaths
+  fixpoint-mean : (f : Family) (q : Quantifier) (A B : List Bool) (a b : ℕ → Type 0) → KeptSet T list B → Means A a → Means B b
+      → Means (levels f q (targets T list) (length (T .states)) A B) (λ s. OnPaths q (Next T list) s (Along f a b))
+  fixpoint-mean f q A B a b k A-is B-is = level-paths (length (T .states)) (Next T list) (targets T list) (targets-sound T list) (targets-complete T list)
+      (λ s t h. next-inside T wf list s t h .0) total A B (k .size) a b A-is B-is f q
+
   abbrev HoldsAt : Formula → ℕ → Type 0
   HoldsAt = Holds (Next T list) (Labelled T)
 
@@ -155,12 +174,14 @@ module _ (T : Table) (wf : Wellformed T) (list : List ℕ) (total : Total T list
   operator-mean (disjunction a b) child form k is = marks-mean _ _ (λ s t h. Iff·trans (or-true-iff _ _) (iff-or (is .0 s t h) (is .1 s t h)))
   operator-mean (next every a) child form k is = marks-mean _ _ (every-mean _ _ is)
   operator-mean (next some a) child form k is = marks-mean _ _ (some-mean _ _ is)
-  operator-mean (release every a b) child form k is =
-      release-every (length (T .states)) (Next T list) (targets T list) (targets-sound T list) (targets-complete T list)
-      (λ s t h. next-inside T wf list s t h .0) total (child a) (child b) (k .1 .size) _ _ (is .0) (is .1)
-  operator-mean (release some a b) child form k is =
-      release-some (length (T .states)) (Next T list) (targets T list) (targets-sound T list) (targets-complete T list)
-      (λ s t h. next-inside T wf list s t h .0) total (child a) (child b) (k .1 .size) _ _ (is .0) (is .1)
+  operator-mean (fixpoint Release every a b) child form k is = fixpoint-mean Release every (child a) (child b) _ _ (k .1) (is .0) (is .1)
+  operator-mean (fixpoint Release some a b) child form k is = fixpoint-mean Release some (child a) (child b) _ _ (k .1) (is .0) (is .1)
+  operator-mean (fixpoint Until every a b) child form k is = fixpoint-mean Until every (child a) (child b) _ _ (k .1) (is .0) (is .1)
+  operator-mean (fixpoint Until some a b) child form k is = fixpoint-mean Until some (child a) (child b) _ _ (k .1) (is .0) (is .1)
+  operator-mean (fixpoint Eventually every a b) child form k is = fixpoint-mean Eventually every (child a) (child b) (HoldsAt (form a)) _ (k .1) (is .0) (is .1)
+  operator-mean (fixpoint Eventually some a b) child form k is = fixpoint-mean Eventually some (child a) (child b) (HoldsAt (form a)) _ (k .1) (is .0) (is .1)
+  operator-mean (fixpoint Always every a b) child form k is = fixpoint-mean Always every (child a) (child b) (HoldsAt (form a)) _ (k .1) (is .0) (is .1)
+  operator-mean (fixpoint Always some a b) child form k is = fixpoint-mean Always some (child a) (child b) (HoldsAt (form a)) _ (k .1) (is .0) (is .1)
 
   -- at a kept state, a node's mark says that the node holds
   pub label-mean : (i : ℕ) → i < length (T .nodes) → (s t : ℕ) → Next T list s t → (marked T list i s ≡ true) ↔ NodeHolds T list i s

@@ -1,4 +1,4 @@
--- Mistakes that the definitions do not make: release without end, release and its last place, dead ends, initial states and loops.
+-- Mistakes that the definitions do not make: release without end, release and its last place, until without end, dead ends, initial states and loops.
 use Prim.Native.Nat.{ℕ, zero, suc, _≤_, _<_}
 use native.Mathlib.Omega.{arith}
 use mathlib.Core.Path.{_≡_, refl, sym, _∙_}
@@ -11,7 +11,7 @@ use Rattle.table.specs.Table.{Table, stateAt, stepAt, nodeAt}
 use Rattle.table.specs.Accept.{all, any, sameStep, nodeFits}
 use Rattle.table.specs.Facts.{Wellformed}
 use Rattle.table.proofs.Bools.{not-so}
-use Rattle.ctl.specs.Meaning.{Formula, ax, Fullpath, Released, Holds}
+use Rattle.ctl.specs.Meaning.{Formula, ax, Fullpath, Released, UntilAlong, Holds}
 use Rattle.ctl.specs.Rule.{every, bottomUp, rootIndex}
 use Rattle.ctl.specs.Kept.{Initial, Labelled, IsList, Next, Kept, Repair}
 use Rattle.ctl.specs.Levels.{tabulate, nextIn}
@@ -29,6 +29,12 @@ endless-released a b π always k none = always k
 -- b must hold also where a first holds
 pub released-at-first : (a b : ℕ → Type 0) (π : ℕ → ℕ) → Released a b π → (k : ℕ) → ((j : ℕ) → j < k → ¬ a (π j)) → a (π k) → b (π k)
 released-at-first a b π r k none first = r k none
+
+-- ---- until
+
+-- a without end does not satisfy a U b: b has to come
+pub endless-not-until : (a b : ℕ → Type 0) (π : ℕ → ℕ) → ((k : ℕ) → ¬ b (π k)) → ¬ UntilAlong a b π
+endless-not-until a b π never u = never (u .0) (u .1)
 
 -- ---- dead ends
 

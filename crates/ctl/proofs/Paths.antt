@@ -1,4 +1,5 @@
--- Level n of release is release along the fullpaths: along all of them for A, along one for E. A state is kept when a kept step leaves it.
+-- Level n of release and the fullpaths, both ways: where it holds, a V b holds along every fullpath (A) or along one (E); where it fails, not a U not b
+-- does along one (A) or along every one (E). A state is kept when a kept step leaves it.
 use Prim.Native.Nat.{ℕ, zero, suc, _<_}
 use native.Mathlib.Nat.{not-suc-le-zero, le-of-suc-le-suc}
 use native.Mathlib.Omega.{arith}
@@ -7,12 +8,24 @@ use mathlib.Core.Bool.{Bool, true, false, true≢false, false≢true}
 use mathlib.Core.Logic.{_↔_, _⊎_, inl, inr, ⊎-elim}
 use mathlib.Core.List.{List, [], _∷_, List·Memᴰ, List·Memᴰ·not-nil}
 use lib.ListN.{length}
-use Rattle.ctl.specs.Meaning.{Fullpath, Released}
+use Rattle.table.specs.declared.family.Family.the-variants.{Release}
 use Rattle.table.specs.Accept.{all}
+use Rattle.table.proofs.Bools.{not-so}
+use Rattle.ctl.specs.Meaning.{Fullpath, Released, UntilAlong}
 use Rattle.ctl.specs.Rule.{Quantifier, every, some}
-use Rattle.ctl.specs.Levels.{has, Subset, iterate, nextIn, level, released, levels}
+use Rattle.ctl.specs.Levels.{has, iterate, nextIn, joined, level, levels}
 use Rattle.ctl.proofs.Tabulate.{all-true, all-false, any-true}
-use Rattle.ctl.proofs.Stable.{JoinMonotone, level-mark, level-inside, levels-fixed}
+use Rattle.ctl.proofs.Stable.{level-mark, levels-fixed}
+use Rattle.ctl.proofs.Joined.{other}
+
+-- what holds along every fullpath from s, or along some
+abbrev pub OnPaths : Quantifier → (ℕ → ℕ → Type 0) → ℕ → ((ℕ → ℕ) → Type 0) → Type 0
+OnPaths every next s P = (π : ℕ → ℕ) → Fullpath next s π → P π
+OnPaths some next s P = (π : ℕ → ℕ) × Fullpath next s π × P π
+
+-- it fails at a state
+abbrev pub Not : (ℕ → Type 0) → ℕ → Type 0
+Not a s = ¬ a s
 
 -- ---- fullpaths
 
@@ -79,51 +92,37 @@ module _ (next : ℕ → ℕ → Type 0) (targets : ℕ → List ℕ) (sound : (
     λ r. any-true (has X) (targets s) .1 (r .0, complete s (r .0) (r .1), r .2),
   )
 
--- ---- release
+  -- where EX of a set fails: each next state is outside the set
+  next-none : (X : List Bool) (s : ℕ) → nextIn some X (targets s) ≡ false → (u : ℕ) → next s u → has X u ≡ false
+  next-none X s e u h = not-so (has X u) (λ m. true≢false (sym (next-some X s .1 (u, h, m)) ∙ e))
 
--- b holds at the start of a path that is released
-released-first : (a b : ℕ → Type 0) (π : ℕ → ℕ) → Released a b π → b (π zero)
-released-first a b π r = r zero (λ j h. absurd (not-suc-le-zero h))
+-- ---- release and until along a path
 
--- where a fails at the start of a path, release along the path is release along the rest
-released-rest : (a b : ℕ → Type 0) (π : ℕ → ℕ) → ¬ a (π zero) → Released a b π → Released a b (λ k. π (suc k))
-released-rest a b π fails r k none = r (suc k) go
+-- until is met at the start
+until-here : (a b : ℕ → Type 0) (π : ℕ → ℕ) → b (π zero) → UntilAlong a b π
+until-here a b π here = (zero, here, λ j h. absurd (not-suc-le-zero h))
+
+-- or along the rest, where a holds at the start
+until-later : (a b : ℕ → Type 0) (π : ℕ → ℕ) → a (π zero) → UntilAlong a b (λ k. π (suc k)) → UntilAlong a b π
+until-later a b π here u = (suc (u .0), u .1, go)
   where
-    go : (j : ℕ) → j < suc k → ¬ a (π j)
-    go zero h = fails
-    go (suc j) h = none j (le-of-suc-le-suc h)
+    go : (j : ℕ) → j < suc (u .0) → a (π j)
+    go zero h = here
+    go (suc j) h = u .2 j (le-of-suc-le-suc h)
 
 -- ---- a level of release
 
-release-true : (x y z : Bool) → (released x y z ≡ true) ↔ ((y ≡ true) × (¬ (x ≡ true) → z ≡ true))
+release-true : (x y z : Bool) → (joined Release x y z ≡ true) ↔ ((y ≡ true) × (¬ (x ≡ true) → z ≡ true))
 release-true x false z = (λ e. absurd (false≢true e), λ r. r .0)
 release-true true true z = (λ e. (refl, λ f. absurd (f refl)), λ r. refl)
 release-true false true z = (λ e. (refl, λ f. e), λ r. r .1 false≢true)
 
-release-false : (x y z : Bool) → released x y z ≡ false → (y ≡ false) ⊎ ((x ≡ false) × (z ≡ false))
+release-false : (x y z : Bool) → joined Release x y z ≡ false → (y ≡ false) ⊎ ((x ≡ false) × (z ≡ false))
 release-false x false z e = inl refl
 release-false true true z e = absurd (true≢false e)
 release-false false true z e = inr (refl, e)
 
--- release is monotone in the level below
-pub release-monotone : JoinMonotone released
-release-monotone a b e = let r = release-true a b false .0 e in release-true a b true .1 (r .0, λ f. refl)
-
--- each level of release is in the set of b
-pub release-falls : (q : Quantifier) (targets : ℕ → List ℕ) (n : ℕ) (A B X : List Bool) → Subset (level released q targets n A B X) B
-release-falls q targets n A B X s e =
-    let h = level-inside released q targets n A B X s e in
-    release-true (has A s) (has B s) _ .0 (rw (level-mark released q targets n A B X s h) at e) .0
-
 -- ---- level n and the fullpaths
-
--- a fullpath from s that is not released
-abbrev Unreleased : (ℕ → ℕ → Type 0) → (ℕ → Type 0) → (ℕ → Type 0) → ℕ → Type 0
-Unreleased next a b s = (π : ℕ → ℕ) × Fullpath next s π × ¬ Released a b π
-
-not-false : (v : Bool) → ¬ (v ≡ false) → v ≡ true
-not-false true f = refl
-not-false false f = absurd (f refl)
 
 module _ (n : ℕ) (next : ℕ → ℕ → Type 0) (targets : ℕ → List ℕ)
     (sound : (s t : ℕ) → List·Memᴰ t (targets s) → next s t)
@@ -135,32 +134,36 @@ module _ (n : ℕ) (next : ℕ → ℕ → Type 0) (targets : ℕ → List ℕ)
     (B-is : (s t : ℕ) → next s t → (has B s ≡ true) ↔ b s)
   where
     abbrev at-level : Quantifier → ℕ → List Bool
-    at-level q m = iterate (level released q targets n A B) B m
+    at-level q m = iterate (level Release q targets n A B) B m
 
     abbrev level-n : Quantifier → List Bool
-    level-n q = levels released q targets n A B
+    level-n q = levels Release q targets n A B
 
     -- a step that stays in level n if a fails at its start
     abbrev Stays : Quantifier → ℕ → ℕ → Type 0
     Stays q s u = has (level-n q) s ≡ true → ¬ a s → has (level-n q) u ≡ true
 
-    -- a kept state is in a level: b holds at it and, where a fails, the level below holds at the next states
-    level-is : (q : Quantifier) (X : List Bool) (s t : ℕ) → next s t
-        → (has (level released q targets n A B X) s ≡ true) ↔ (b s × (¬ a s → nextIn q X (targets s) ≡ true))
-    level-is q X s t h = rw (level-mark released q targets n A B X s (inside s t h)) (
-      λ e. let r = release-true (has A s) (has B s) _ .0 e in (B-is s t h .0 (r .0), λ fails. r .1 (λ m. fails (A-is s t h .0 m))),
-      λ r. release-true (has A s) (has B s) _ .1 (B-is s t h .1 (r .0), λ fails. r .1 (λ x. fails (A-is s t h .1 x))),
-    )
+    -- a kept state is in level n, which is the level below itself: b holds at it and, where a fails, level n holds at the next states
+    level-n-true : (q : Quantifier) (s t : ℕ) → next s t → has (level-n q) s ≡ true → b s × (¬ a s → nextIn q (level-n q) (targets s) ≡ true)
+    level-n-true q s t h e =
+        let r = release-true (has A s) (has B s) _ .0
+        (sym (level-mark Release q targets n A B (level-n q) s (inside s t h)) ∙ rw (levels-fixed Release q targets n A B size) e) in
+        (B-is s t h .0 (r .0), λ fails. r .1 (λ m. fails (A-is s t h .0 m)))
 
-    -- the same of level n, which is the level below itself
-    level-n-is : (q : Quantifier) (s t : ℕ) → next s t → (has (level-n q) s ≡ true) ↔ (b s × (¬ a s → nextIn q (level-n q) (targets s) ≡ true))
-    level-n-is q s t h =
-        rw (levels-fixed released q targets n A B size release-monotone (inl (release-falls q targets n A B B))) at (level-is q (level-n q) s t h)
+    -- a kept state is in no level m + 1: b fails at it, or a does and level m at the next states
+    level-false : (q : Quantifier) (X : List Bool) (s t : ℕ) → next s t → has (level Release q targets n A B X) s ≡ false
+        → Not b s ⊎ (Not a s × (nextIn q X (targets s) ≡ false))
+    level-false q X s t h e = ⊎-elim
+        (λ f. inl (λ x. true≢false (sym (B-is s t h .1 x) ∙ f)))
+        (λ r. inr (λ x. true≢false (sym (A-is s t h .1 x) ∙ r .0), r .1))
+        (release-false (has A s) (has B s) _ (sym (level-mark Release q targets n A B X s (inside s t h)) ∙ e))
 
-    -- a path of such steps from level n is released
+    -- ---- where level n holds
+
+    -- a path of steps that stay is released from level n
     stays-released : (q : Quantifier) (π : ℕ → ℕ) → ((k : ℕ) → next (π k) (π (suc k))) → ((k : ℕ) → Stays q (π k) (π (suc k)))
         → has (level-n q) (π zero) ≡ true → Released a b π
-    stays-released q π steps stays start k none = level-n-is q (π k) (π (suc k)) (steps k) .0 (go k none) .0
+    stays-released q π steps stays start k none = level-n-true q (π k) (π (suc k)) (steps k) (go k none) .0
       where
         go : (k : ℕ) → ((j : ℕ) → j < k → ¬ a (π j)) → has (level-n q) (π k) ≡ true
         go zero none = start
@@ -168,7 +171,7 @@ module _ (n : ℕ) (next : ℕ → ℕ → Type 0) (targets : ℕ → List ℕ)
 
     -- for A each step stays
     every-stays : (s u : ℕ) → next s u → Stays every s u
-    every-stays s u h e fails = next-every next targets sound complete (level-n every) s u h .0 (level-n-is every s u h .0 e .1 fails) u h
+    every-stays s u h e fails = next-every next targets sound complete (level-n every) s u h .0 (level-n-true every s u h e .1 fails) u h
 
     -- for E a step stays, of those that leave a kept state
     some-stays : (s t : ℕ) → next s t → (u : ℕ) × next s u × Stays some s u
@@ -176,52 +179,48 @@ module _ (n : ℕ) (next : ℕ → ℕ → Type 0) (targets : ℕ → List ℕ)
       where
         go : (v : Bool) → nextIn some (level-n some) (targets s) ≡ v → (u : ℕ) × next s u × Stays some s u
         go true e = let r = next-some next targets sound complete (level-n some) s .0 e in (r .0, r .1, λ g fails. r .2)
-        go false e = (t, h, λ g fails. absurd (true≢false (sym (level-n-is some s t h .0 g .1 fails) ∙ e)))
+        go false e = (t, h, λ g fails. absurd (true≢false (sym (level-n-true some s t h g .1 fails) ∙ e)))
 
-    -- a path that is released starts in each level of E
-    released-in : (m : ℕ) (π : ℕ → ℕ) → ((k : ℕ) → next (π k) (π (suc k))) → Released a b π → has (at-level some m) (π zero) ≡ true
+    -- ---- where a level fails
+
+    -- where b fails, along any fullpath
+    fails-here : (s t : ℕ) → next s t → Not b s → OnPaths some next s (UntilAlong (Not a) (Not b))
+    fails-here s t h f = let p = follow next total s t h in (p .0, p .1, until-here (Not a) (Not b) (p .0) (rw (p .1 .starts) f))
+
+    -- from a kept state outside a level of A, a fullpath along which not a U not b
+    every-fails : (m : ℕ) (s t : ℕ) → next s t → has (at-level every m) s ≡ false → OnPaths some next s (UntilAlong (Not a) (Not b))
     unfolding iterate
-    released-in zero π steps r = B-is (π zero) (π 1) (steps zero) .1 (released-first a b π r)
-    released-in (suc m) π steps r = level-is some (at-level some m) (π zero) (π 1) (steps zero) .1 (
-      released-first a b π r,
-      λ fails. next-some next targets sound complete (at-level some m) (π zero) .1
-          (π 1, steps zero, released-in m (λ k. π (suc k)) (λ k. steps (suc k)) (released-rest a b π fails r)),
-    )
-
-    unreleased-here : (s t : ℕ) → next s t → has B s ≡ false → Unreleased next a b s
-    unreleased-here s t h e =
-        let p = follow next total s t h in
-        (p .0, p .1, λ r. true≢false (sym (B-is s t h .1 (rw (p .1 .starts) at (released-first a b (p .0) r))) ∙ e))
-
-    unreleased-before : (s u : ℕ) → next s u → has A s ≡ false → Unreleased next a b u → Unreleased next a b s
-    unreleased-before s u h e p = (
-      before s (p .0),
-      before-fullpath next s h (p .1),
-      λ r. p .2 (released-rest a b (before s (p .0)) (λ x. true≢false (sym (A-is s u h .1 x) ∙ e)) r),
-    )
-
-    -- from a kept state outside a level of A, a fullpath that is not released
-    unreleased : (m : ℕ) (s t : ℕ) → next s t → has (at-level every m) s ≡ false → Unreleased next a b s
-    unfolding iterate
-    unreleased zero s t h e = unreleased-here s t h e
-    unreleased (suc m) s t h e = ⊎-elim (unreleased-here s t h) (λ r.
+    every-fails zero s t h e = fails-here s t h (λ x. true≢false (sym (B-is s t h .1 x) ∙ e))
+    every-fails (suc m) s t h e = ⊎-elim (fails-here s t h) (λ r.
         let o = next-outside next targets sound complete (at-level every m) s t h (r .1) in
         let v = total s (o .0) (o .1) in
-        unreleased-before s (o .0) (o .1) (r .0) (unreleased m (o .0) (v .0) (v .1) (o .2)))
-        (release-false (has A s) (has B s) _ (rw (level-mark released every targets n A B (at-level every m) s (inside s t h)) at e))
+        let p = every-fails m (o .0) (v .0) (v .1) (o .2) in
+        (before s (p .0), before-fullpath next s (o .1) (p .1), until-later (Not a) (Not b) (before s (p .0)) (r .0) (p .2)))
+        (level-false every (at-level every m) s t h e)
 
-    -- At a kept state, level n of release under A says that a V b holds along every fullpath.
-    pub release-every : (s t : ℕ) → next s t → (has (levels released every targets n A B) s ≡ true) ↔ ((π : ℕ → ℕ) → Fullpath next s π → Released a b π)
-    unfolding levels
-    release-every s t h = (
-      λ e π path. stays-released every π (path .steps) (λ k. every-stays (π k) (π (suc k)) (path .steps k)) (rw (path .starts) e),
-      λ r. not-false (has (level-n every) s) (λ e. let p = unreleased n s t h e in p .2 (r (p .0) (p .1))),
-    )
+    -- along each fullpath from a state outside a level of E, not a U not b
+    some-fails : (m : ℕ) (π : ℕ → ℕ) → ((k : ℕ) → next (π k) (π (suc k))) → has (at-level some m) (π zero) ≡ false → UntilAlong (Not a) (Not b) π
+    unfolding iterate
+    some-fails zero π steps e = until-here (Not a) (Not b) π (λ x. true≢false (sym (B-is (π zero) (π 1) (steps zero) .1 x) ∙ e))
+    some-fails (suc m) π steps e = ⊎-elim (until-here (Not a) (Not b) π) (λ r.
+        until-later (Not a) (Not b) π (r .0) (some-fails m (λ k. π (suc k)) (λ k. steps (suc k))
+        (next-none next targets sound complete (at-level some m) (π zero) (r .1) (π 1) (steps zero))))
+        (level-false some (at-level some m) (π zero) (π 1) (steps zero) e)
 
-    -- At a kept state, level n of release under E says that a V b holds along some fullpath.
-    pub release-some : (s t : ℕ) → next s t → (has (levels released some targets n A B) s ≡ true) ↔ ((π : ℕ → ℕ) × Fullpath next s π × Released a b π)
+    -- ---- both
+
+    -- At a kept state in level n, a V b holds along the fullpaths.
+    pub release-holds : (q : Quantifier) (s t : ℕ) → next s t → has (levels Release q targets n A B) s ≡ true → OnPaths q next s (Released a b)
     unfolding levels
-    release-some s t h = (
-      λ e. let p = follow-by next total (Stays some) some-stays s t h in (p .0, p .1, stays-released some (p .0) (p .1 .steps) (p .2) (rw (p .1 .starts) e)),
-      λ p. rw (p .1 .starts) at (released-in n (p .0) (p .1 .steps) (p .2)),
-    )
+    release-holds every s t h e = λ π path.
+        stays-released every π (path .steps) (λ k. every-stays (π k) (π (suc k)) (path .steps k)) (rw (path .starts) e)
+    release-holds some s t h e =
+        let p = follow-by next total (Stays some) some-stays s t h in
+        (p .0, p .1, stays-released some (p .0) (p .1 .steps) (p .2) (rw (p .1 .starts) e))
+
+    -- At a kept state outside level n, not a U not b does, with the other quantifier.
+    pub release-fails : (q : Quantifier) (s t : ℕ) → next s t → has (levels Release q targets n A B) s ≡ false
+        → OnPaths (other q) next s (UntilAlong (Not a) (Not b))
+    unfolding levels
+    release-fails every s t h e = every-fails n s t h e
+    release-fails some s t h e = λ π path. some-fails n π (path .steps) (rw (path .starts) e)

@@ -9,11 +9,13 @@ use mathlib.Core.Path.{_≡_, refl, sym, ap, _∙_}
 use mathlib.Core.Bool.{Bool, true, false, not, cond, Bool·beq, true≢false, false≢true}
 use mathlib.Core.Logic.{_⊎_, inl, inr, ⊎-elim, ⊎-map}
 use mathlib.Core.List.{List, [], _∷_}
-use lib.ListN.{length}
+use lib.ListN.{length, List·getD-eq-default}
+use Rattle.table.specs.declared.family.Family.{Family}
 use Rattle.table.specs.Accept.{all}
 use Rattle.ctl.specs.Rule.{Quantifier, every, some}
-use Rattle.ctl.specs.Levels.{has, Subset, iterate, nextIn, level, levels}
-use Rattle.ctl.proofs.Tabulate.{length-tabulate, getD-tabulate, getD-tabulate-past, all-true, any-true}
+use Rattle.ctl.specs.Levels.{has, Subset, iterate, nextIn, joined, level, levels}
+use Rattle.ctl.proofs.Tabulate.{length-tabulate, getD-tabulate, all-true, any-true}
+use Rattle.ctl.proofs.Joined.{joined-up, falls-or-rises}
 
 -- a step that gives a larger set no smaller result
 abbrev pub Monotone : (List Bool → List Bool) → Type 0
@@ -115,51 +117,50 @@ stable n F X start size mono (inr rises) = stable-chain n F X start size mono tr
 
 -- ---- the levels of a fixed-point kind
 
+-- a member of a set of n states is below n
+has-inside : (X : List Bool) (s : ℕ) → has X s ≡ true → s < length X
+has-inside X s e = go (decLt s (length X))
+  where
+    go : Dec (s < length X) → s < length X
+    go (yes h) = h
+    go (no h) = absurd (false≢true (sym (List·getD-eq-default X false {n = s} (omega (arith, h))) ∙ e))
+
 -- AX and EX of a larger set hold where those of the smaller do
-pub next-monotone : (q : Quantifier) (X Y : List Bool) (ts : List ℕ) → Subset X Y → nextIn q X ts ≡ true → nextIn q Y ts ≡ true
+next-monotone : (q : Quantifier) (X Y : List Bool) (ts : List ℕ) → Subset X Y → nextIn q X ts ≡ true → nextIn q Y ts ≡ true
 unfolding nextIn all
 next-monotone every X Y [] sub e = e
 next-monotone every X Y (t ∷ ts) sub e = all-true (has Y) (t ∷ ts) .1 (λ u m. sub u (all-true (has X) (t ∷ ts) .0 e u m))
 next-monotone some X Y ts sub e = let r = any-true (has X) ts .0 e in any-true (has Y) ts .1 (r .0, r .1, sub (r .0) (r .2))
 
--- a state that has the mark without its next states keeps it with them
-abbrev pub JoinMonotone : (Bool → Bool → Bool → Bool) → Type 0
-JoinMonotone join = (a b : Bool) → join a b false ≡ true → join a b true ≡ true
-
-join-up : (join : Bool → Bool → Bool → Bool) → JoinMonotone join → (a b x y : Bool) → (x ≡ true → y ≡ true) → join a b x ≡ true → join a b y ≡ true
-join-up join up a b true true k e = e
-join-up join up a b true false k e = absurd (false≢true (k refl))
-join-up join up a b false true k e = up a b e
-join-up join up a b false false k e = e
-
-module _ (join : Bool → Bool → Bool → Bool) (q : Quantifier) (targets : ℕ → List ℕ) (n : ℕ) (A B : List Bool) where
+module _ (f : Family) (q : Quantifier) (targets : ℕ → List ℕ) (n : ℕ) (A B : List Bool) where
   -- a level is a set of n states
-  pub level-length : (X : List Bool) → length (level join q targets n A B X) ≡ n
+  pub level-length : (X : List Bool) → length (level f q targets n A B X) ≡ n
   unfolding level
   level-length X = length-tabulate n _
 
   -- the mark of a state in a level
-  pub level-mark : (X : List Bool) (s : ℕ) → s < n → has (level join q targets n A B X) s ≡ join (has A s) (has B s) (nextIn q X (targets s))
+  pub level-mark : (X : List Bool) (s : ℕ) → s < n → has (level f q targets n A B X) s ≡ joined f (has A s) (has B s) (nextIn q X (targets s))
   unfolding level
   level-mark X s h = getD-tabulate n _ s false h
 
   -- a state of a level is below n
-  pub level-inside : (X : List Bool) (s : ℕ) → has (level join q targets n A B X) s ≡ true → s < n
-  unfolding level
-  level-inside X s e = go (decLt s n)
-    where
-      go : Dec (s < n) → s < n
-      go (yes h) = h
-      go (no h) = absurd (false≢true (sym (getD-tabulate-past n _ s false (omega arith)) ∙ e))
+  pub level-inside : (X : List Bool) (s : ℕ) → has (level f q targets n A B X) s ≡ true → s < n
+  level-inside X s e = omega (arith, has-inside (level f q targets n A B X) s e, level-length X)
 
   -- a level rises with the level below it
-  pub level-monotone : JoinMonotone join → Monotone (level join q targets n A B)
-  level-monotone up X Y sub s e =
+  level-monotone : Monotone (level f q targets n A B)
+  level-monotone X Y sub s e =
       let h = level-inside X s e in
-      rw (level-mark Y s h) (join-up join up (has A s) (has B s) _ _ (next-monotone q X Y (targets s) sub) (rw (level-mark X s h) at e))
+      rw (level-mark Y s h) (joined-up f (has A s) (has B s) _ _ (next-monotone q X Y (targets s) sub) (rw (level-mark X s h) at e))
 
-  -- Level n is a fixed point: one more step gives it again.
-  pub levels-fixed : length B ≡ n → JoinMonotone join → (Subset (level join q targets n A B B) B ⊎ Subset B (level join q targets n A B B))
-      → level join q targets n A B (levels join q targets n A B) ≡ levels join q targets n A B
+  -- the first level lies in level 0, or has all of it
+  first-step : length B ≡ n → Subset (level f q targets n A B B) B ⊎ Subset B (level f q targets n A B B)
+  first-step size = ⊎-map
+      (λ falls s e. falls (has A s) (has B s) _ (rw (level-mark B s (level-inside B s e)) at e))
+      (λ rises s e. rw (level-mark B s (omega (arith, has-inside B s e, size))) (rises (has A s) (has B s) _ e))
+      (falls-or-rises f)
+
+  -- Level n is a fixed point, whatever the family: one more step gives it again.
+  pub levels-fixed : length B ≡ n → level f q targets n A B (levels f q targets n A B) ≡ levels f q targets n A B
   unfolding levels iterate
-  levels-fixed size up = stable n (level join q targets n A B) B size level-length (level-monotone up)
+  levels-fixed size = stable n (level f q targets n A B) B size level-length level-monotone (first-step size)

@@ -3,7 +3,7 @@ use Prim.Native.Nat.{ℕ, zero, suc, _<_, zero-le, suc-le-suc}
 use native.Mathlib.Nat.{le-of-suc-le-suc, not-suc-le-zero}
 use native.Mathlib.Omega.{arith}
 use mathlib.Core.Path.{_≡_, refl, sym, ap}
-use mathlib.Core.Bool.{true, false≢true}
+use mathlib.Core.Bool.{Bool, true, _&&_, false≢true}
 use mathlib.Core.Logic.{_↔_, inr, ⊎-elim, inl}
 use mathlib.Core.List.{List, [], _∷_, List·Memᴰ, List·Memᴰ·head, List·Memᴰ·tail, List·Memᴰ·not-nil}
 use borrow.Author.Tests.{eqb-true, eq-eqb}
@@ -11,8 +11,11 @@ use lib.Dec.{eqb}
 use lib.ListN.{length, getD}
 use Rattle.table.specs.declared.record.Step.{Step}
 use Rattle.table.specs.Table.{Table, zeroStep, stepAt}
+use Rattle.table.specs.Accept.{any}
 use Rattle.table.specs.Facts.{Wellformed}
+use Rattle.ctl.specs.Rule.{Quantifier, every, some}
 use Rattle.ctl.specs.Kept.{Next, Kept}
+use Rattle.ctl.specs.Levels.{nextIn}
 use Rattle.ctl.specs.Labels.{keptSteps, endsFrom, targets, nonempty, isKept}
 use Rattle.ctl.proofs.Select.{in-cond}
 
@@ -90,3 +93,11 @@ is-kept T list s = (
 -- the ends of a kept step are states
 pub next-inside : (T : Table) → Wellformed T → (list : List ℕ) (s t : ℕ) → Next T list s t → (s < length (T .states)) × (t < length (T .states))
 next-inside T wf list s t h = (rw (h .leaves) at (wf .from-state (h .step) (h .listed)), rw (h .enters) at (wf .to-state (h .step) (h .listed)))
+
+-- a state with no next state has neither AX nor EX
+pub next-of-kept : (q : Quantifier) (Y : List Bool) (ts : List ℕ) → nextIn q Y ts ≡ nonempty ts && nextIn q Y ts
+unfolding nextIn any
+next-of-kept every Y [] = refl
+next-of-kept every Y (t ∷ ts) = refl
+next-of-kept some Y [] = refl
+next-of-kept some Y (t ∷ ts) = refl

@@ -7,8 +7,8 @@ use lib.Dec.{eqb}
 use Rattle.sets.specs.Member.{member}
 use Rattle.table.specs.declared.record.Step.{Step}
 use Rattle.table.specs.Table.{Table, stateAt}
-use Rattle.ctl.specs.Rule.{Operator, constant, atom, negation, conjunction, disjunction, next, release, bottomUp}
-use Rattle.ctl.specs.Levels.{has, tabulate, nextIn, levels, released}
+use Rattle.ctl.specs.Rule.{Operator, constant, atom, negation, conjunction, disjunction, next, fixpoint, bottomUp}
+use Rattle.ctl.specs.Levels.{has, tabulate, nextIn, levels}
 
 -- the steps that the list keeps
 unfoldable pub keptSteps : List Step → List ℕ → List Step
@@ -45,7 +45,7 @@ module _ (T : Table) (list : List ℕ) where
   labelOf (conjunction a b) child = marks (λ s. has (child a) s && has (child b) s)
   labelOf (disjunction a b) child = marks (λ s. has (child a) s || has (child b) s)
   labelOf (next q a) child = marks (λ s. nextIn q (child a) (targets T list s))
-  labelOf (release q a b) child = levels released q (targets T list) (length (T .states)) (child a) (child b)
+  labelOf (fixpoint f q a b) child = levels f q (targets T list) (length (T .states)) (child a) (child b)
 
   -- the set of node i
   unfoldable pub label : ℕ → List Bool

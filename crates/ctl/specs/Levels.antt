@@ -4,6 +4,8 @@ use mathlib.Core.Path.{_≡_}
 use mathlib.Core.Bool.{Bool, true, false, cond, _&&_, _||_}
 use mathlib.Core.List.{List, [], _∷_}
 use lib.ListN.{getD}
+use Rattle.table.specs.declared.family.Family.{Family}
+use Rattle.table.specs.declared.family.Family.the-variants.{Release, Until, Eventually, Always}
 use Rattle.table.specs.Accept.{all, any}
 use Rattle.ctl.specs.Rule.{Quantifier, every, some}
 
@@ -38,14 +40,18 @@ nextIn every X [] = false
 nextIn every X (t ∷ ts) = has X t && all (has X) ts
 nextIn some X ts = any (has X) ts
 
--- One level from the level below: `join` puts the marks of a and b at a state together with what the next states say.
-unfoldable pub level : (Bool → Bool → Bool → Bool) → Quantifier → (ℕ → List ℕ) → ℕ → List Bool → List Bool → List Bool → List Bool
-level join q targets n A B X = tabulate n (λ s. join (has A s) (has B s) (nextIn q X (targets s)))
+-- What a level joins at a state, by its family: the marks of a and b there, and what the next states say of the level below. F is U with a true
+-- everywhere, and G is V with a false everywhere.
+abbrev pub joined : Family → Bool → Bool → Bool → Bool
+joined Release a b next = b && (a || next)
+joined Until a b next = b || (a && next)
+joined Eventually a b next = b || next
+joined Always a b next = b && next
 
--- release: b, and a or the level below at the next states
-abbrev pub released : Bool → Bool → Bool → Bool
-released a b next = b && (a || next)
+-- one level from the level below
+unfoldable pub level : Family → Quantifier → (ℕ → List ℕ) → ℕ → List Bool → List Bool → List Bool → List Bool
+level f q targets n A B X = tabulate n (λ s. joined f (has A s) (has B s) (nextIn q X (targets s)))
 
--- level n of the kind, from level 0, which is the set of b
-unfoldable pub levels : (Bool → Bool → Bool → Bool) → Quantifier → (ℕ → List ℕ) → ℕ → List Bool → List Bool → List Bool
-levels join q targets n A B = iterate (level join q targets n A B) B n
+-- level n, from level 0, which is the set of b
+unfoldable pub levels : Family → Quantifier → (ℕ → List ℕ) → ℕ → List Bool → List Bool → List Bool
+levels f q targets n A B = iterate (level f q targets n A B) B n

@@ -6,3 +6,4 @@ pub mod Levels
 pub mod Labels
 pub mod Tests
 pub mod Exact
+pub mod Duals

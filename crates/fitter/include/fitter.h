@@ -19,7 +19,7 @@ extern "C" {
  * 15 where the search has made `cap` choices and would make another. These three store the choices made, leave the first V entries of `bytes`
  * and `words` 0, and but for the list that is found every other entry as it was. Else 2 to 8 or 10, and nothing is stored.
  * `list` needs a byte for each step, `bytes` and `words` V entries each. With n states and e steps, V is e + n and, for each node, n (kinds 0 to 5),
- * e + n (6 and 7) or n + n (e + 3 n) (8 and 9): at most 223392. */
+ * e + n (6 and 7), n + n (e + 3 n) (8 to 11) or n + n (e + 2 n) (12 to 15): at most 223392. */
 uint32_t fitter_repair(const uint8_t *table, size_t table_len, uint64_t cap,
                        uint8_t *list, size_t list_len,
                        uint8_t *bytes, size_t bytes_len,

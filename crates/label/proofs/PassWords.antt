@@ -3,7 +3,7 @@ use Prim.Native.Nat.{ℕ, zero, suc, _+_, _-_, _≤_, _<_}
 use mathlib.Core.Path.{_≡_, refl, sym, ap, ap₂, _∙_}
 use mathlib.Core.Bool.{Bool, true, false, not, _&&_, and-true, and-false, and-eq-true-iff}
 use mathlib.Core.Logic.{⊎-elim}
-use mathlib.Core.List.{List, [], _∷_}
+use mathlib.Core.List.{List, []}
 use native.Mathlib.Decide.{decLt, ℕ-discrete}
 use native.Mathlib.Nat.{lt-of-lt-of-le, not-suc-le-zero}
 use native.Mathlib.Omega.{arith}
@@ -13,15 +13,14 @@ use lib.Seq.{drop-cons, getD-set-same, getD-set-other, ext-getD}
 use Rattle.sets.specs.Member.{member, setOf}
 use Rattle.sets.proofs.SetOf.{setOf-lt, member-setOf-below, setOf-cong, empty}
 use Rattle.table.specs.Table.{Table, nodeAt, stateAt, zeroNode}
-use Rattle.table.specs.Accept.{any}
 use Rattle.table.specs.Facts.{Wellformed}
 use Rattle.table.proofs.Bools.{or-parts}
-use Rattle.ctl.specs.Rule.{Quantifier, every, some, Operator, constant, atom, negation, conjunction, disjunction, next, release, operatorOf, bottomUp}
+use Rattle.ctl.specs.Rule.{Quantifier, Operator, constant, atom, negation, conjunction, disjunction, next, fixpoint, operatorOf, bottomUp}
 use Rattle.ctl.specs.Levels.{has, nextIn, levels}
-use Rattle.ctl.specs.Labels.{marks, targets, nonempty, isKept, labelOf, label, marked}
+use Rattle.ctl.specs.Labels.{marks, targets, isKept, labelOf, label, marked}
 use Rattle.ctl.proofs.Tabulate.{length-tabulate, getD-tabulate, getD-tabulate-past}
 use Rattle.ctl.proofs.BottomUp.{OfChildren, of-children, bottomUp-length}
-use Rattle.ctl.proofs.Targets.{is-kept}
+use Rattle.ctl.proofs.Targets.{is-kept, next-of-kept}
 use Rattle.ctl.proofs.Meaning.{KeptSet, label-of, label-set}
 use Rattle.label.specs.Words.{full, nodeWord, nextWord, passWords}
 use Rattle.label.specs.Analysis.{labelWords}
@@ -37,14 +36,6 @@ only-kept : (k x : Bool) → (x ≡ true → k ≡ true) → x ≡ k && x
 only-kept true x f = refl
 only-kept false true f = sym (f refl)
 only-kept false false f = refl
-
--- a state with no next state has neither AX nor EX
-next-of-kept : (q : Quantifier) (Y : List Bool) (ts : List ℕ) → nextIn q Y ts ≡ nonempty ts && nextIn q Y ts
-unfolding nextIn any
-next-of-kept every Y [] = refl
-next-of-kept every Y (t ∷ ts) = refl
-next-of-kept some Y [] = refl
-next-of-kept some Y (t ∷ ts) = refl
 
 module _ (T : Table) (wf : Wellformed T) (list : List ℕ) where
   -- the mark of a state in a set of kept states that have f
@@ -106,8 +97,8 @@ module _ {T : Table} {list rows : List ℕ} (k : KeptRows T list rows) (kept : �
       ∙ marks-word T (k .table) list _ _ (λ s. only-kept (isKept T list s) _ (λ h.
       ⊎-elim (set-kept (child a) (x .0) s) (set-kept (child b) (x .1) s) (or-parts (has (child a) s) (has (child b) s) h)))
   operator-word words child (next q a) e x = next-marks q (getD words a 0) (child a) e
-  operator-word words child (release q a b) e x =
-      levels-word k q (getD words a 0) (getD words b 0) (child a) (child b) (e .0) (e .1) (x .1 .size) (length (T .states))
+  operator-word words child (fixpoint f q a b) e x =
+      levels-word k f q (getD words a 0) (getD words b 0) (child a) (child b) (e .0) (e .1) (x .1 .size) (length (T .states))
 
   -- the word of node i, from the words of the nodes before it
   pub node-word : (words : List ℕ) (i : ℕ) → i < length (T .nodes) → ((j : ℕ) → j < i → getD words j 0 ≡ setOf 32 (marked T list j))

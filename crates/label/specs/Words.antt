@@ -6,13 +6,15 @@ use lib.Bits.{bitAnd, bitOr}
 use lib.Dec.{eqb}
 use lib.ListN.{getD, set}
 use Rattle.sets.specs.Member.{member, setOf}
+use Rattle.table.specs.declared.family.Family.{Family}
+use Rattle.table.specs.declared.family.Family.the-variants.{Release, Until, Eventually, Always}
 use Rattle.table.specs.declared.record.Node.{Node}
 use Rattle.table.specs.StateSets.{labelledWord}
 use Rattle.table.specs.Accept.{all}
-use Rattle.ctl.specs.Rule.{Quantifier, every, some, Operator, constant, atom, negation, conjunction, disjunction, next, release, operatorOf}
+use Rattle.ctl.specs.Rule.{Quantifier, every, some, Operator, constant, atom, negation, conjunction, disjunction, next, fixpoint, operatorOf}
 use Rattle.ctl.specs.Levels.{below}
-use Rattle.label.specs.declared.release.Quantifier as Declared
-use Rattle.label.specs.declared.release.Quantifier.the-variants.{Every, Some}
+use Rattle.label.specs.declared.fixpoint.Quantifier as Declared
+use Rattle.label.specs.declared.fixpoint.Quantifier.the-variants.{Every, Some}
 
 -- all 32 bits
 abbrev pub full : ℕ
@@ -32,13 +34,20 @@ rowNext some row X = not (eqb (bitAnd row X) 0)
 unfoldable pub nextWord : Quantifier → List ℕ → ℕ → ℕ → ℕ
 nextWord q rows n X = setOf n (λ s. rowNext q (getD rows s 0) X)
 
--- one level of release from the level below, and level m from level 0, the set of b
-abbrev pub levelWord : Quantifier → List ℕ → ℕ → ℕ → ℕ → ℕ → ℕ
-levelWord q rows n A B X = bitAnd B (bitOr A (nextWord q rows n X))
+-- what a level joins, by its family
+abbrev pub joinWord : Family → ℕ → ℕ → ℕ → ℕ
+joinWord Release A B X = bitAnd B (bitOr A X)
+joinWord Until A B X = bitOr B (bitAnd A X)
+joinWord Eventually A B X = bitOr B X
+joinWord Always A B X = bitAnd B X
 
-unfoldable pub levelsWord : Quantifier → List ℕ → ℕ → ℕ → ℕ → ℕ → ℕ
-levelsWord q rows n A B zero = B
-levelsWord q rows n A B (suc m) = levelWord q rows n A B (levelsWord q rows n A B m)
+-- one level from the level below, and level m from level 0, the set of b
+abbrev pub levelWord : Family → Quantifier → List ℕ → ℕ → ℕ → ℕ → ℕ → ℕ
+levelWord f q rows n A B X = joinWord f A B (nextWord q rows n X)
+
+unfoldable pub levelsWord : Family → Quantifier → List ℕ → ℕ → ℕ → ℕ → ℕ → ℕ
+levelsWord f q rows n A B zero = B
+levelsWord f q rows n A B (suc m) = levelWord f q rows n A B (levelsWord f q rows n A B m)
 
 -- the kept states, those with a next state
 abbrev pub keptWord : List ℕ → ℕ → ℕ
@@ -58,7 +67,7 @@ module _ (rows : List ℕ) (kept n : ℕ) (states : List ℕ) where
   nodeWord words (conjunction a b) = bitAnd (getD words a 0) (getD words b 0)
   nodeWord words (disjunction a b) = bitOr (getD words a 0) (getD words b 0)
   nodeWord words (next q a) = nextWord q rows n (getD words a 0)
-  nodeWord words (release q a b) = levelsWord q rows n (getD words a 0) (getD words b 0) n
+  nodeWord words (fixpoint f q a b) = levelsWord f q rows n (getD words a 0) (getD words b 0) n
 
   -- the pass over the nodes from number i on
   unfoldable pub passWords : ℕ → List Node → List ℕ → List ℕ

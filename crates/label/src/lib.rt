@@ -1,9 +1,9 @@
 // Labels: the set of states of each node of a table, under a kept list. Label and Holding.
 mod analysis;
+mod fixpoint;
 mod holding;
 mod label;
 mod pass;
-mod release;
 mod rows;
 
 pub use analysis::Analysis;

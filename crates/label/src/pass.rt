@@ -1,8 +1,10 @@
 // The labelling pass: the set of each node, children first.
-use crate::release::Quantifier;
-use crate::release::next_states;
-use crate::release::release_states;
+use crate::fixpoint::fixpoint_states;
+use crate::fixpoint::next_states;
+use crate::fixpoint::quantifier_of;
 use table::Node;
+use table::family_of;
+use table::second_child;
 ghost use mathlib.Core.Path.{_≡_};
 ghost use Prim.Native.Nat.{_≤_, _<_};
 ghost use lib.ListN.{length};
@@ -26,18 +28,20 @@ fn node_states(
     ensures { λ r. ⌜ r ≡ nodeWord (now (rows .entry)) kept n (now (states .entry)) (now (words .entry)) (operatorOf x) ⌝ }
 {
     let kind = x.kind;
-    let a = x.a;
-    let b = x.b;
+    let left = x.a;
+    let right = second_child(x);
+    let a = words[left];
+    let b = words[right];
     match kind {
         1 => kept,
-        2 => kept & table::labelled_states(states, n, a),
-        3 => kept & !words[a],
-        4 => words[a] & words[b],
-        5 => words[a] | words[b],
-        6 => next_states(Quantifier::Every, rows, n, words[a]),
-        7 => next_states(Quantifier::Some, rows, n, words[a]),
-        8 => release_states(Quantifier::Every, rows, n, words[a], words[b]),
-        9 => release_states(Quantifier::Some, rows, n, words[a], words[b]),
+        2 => kept & table::labelled_states(states, n, left),
+        3 => kept & !a,
+        4 => a & b,
+        5 => a | b,
+        6 | 7 => next_states(quantifier_of(kind), rows, n, a),
+        8 | 9 | 10 | 11 | 12 | 13 | 14 | 15 => {
+            fixpoint_states(family_of(kind), quantifier_of(kind), rows, n, a, b)
+        }
         _ => 0,
     }
 }

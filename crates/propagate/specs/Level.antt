@@ -6,19 +6,19 @@ use mathlib.Core.Bool.{Bool, false, cond, _&&_}
 use mathlib.Core.List.{List}
 use lib.Dec.{eqb}
 use lib.ListN.{length}
+use Rattle.table.specs.declared.family.Family.{Family}
 use Rattle.rows.specs.declared.row.Row.{Row}
 use Rattle.propagate.specs.declared.level.Fixpoint.{Fixpoint}
 use Rattle.propagate.specs.declared.levels.Seen.{Seen}
-use Rattle.rows.specs.declared.family.Joined.{Joined}
-use Rattle.rows.specs.declared.family.Family.the-variants.{Release}
+use Rattle.rows.specs.declared.joined.Joined.{Joined}
 use Rattle.rows.specs.Row.{sameRow}
 use Rattle.rows.specs.Rules.{row, joinOf}
 use Rattle.rows.specs.Words.{rowAt, quiet}
 use Rattle.propagate.specs.Memory.{Memory, nodePlace, Stepped, failing, _andThen_, addRow, addWord, nodeRow, Visit, passed, eachWith, ordered, aheadIn, goBackMore}
 
--- release of a and b, at node i
-abbrev pub fixpointAt : ℕ → Bool → ℕ → ℕ → ℕ → Fixpoint
-fixpointAt i e a b base = record { family = Release; node = i; a = a; b = b; every = e; base = base }
+-- a family over a and b, at node i
+abbrev pub fixpointAt : Family → ℕ → Bool → ℕ → ℕ → ℕ → Fixpoint
+fixpointAt family i e a b base = record { family = family; node = i; a = a; b = b; every = e; base = base }
 
 module _ (n : ℕ) (x : Fixpoint) where
   abbrev pub levelAt : ℕ → Memory → Row

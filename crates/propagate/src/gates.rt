@@ -3,7 +3,6 @@ use crate::layout::add_node;
 use crate::layout::node_row;
 use crate::level::Fixpoint;
 use crate::levels::levels_step;
-use rows::Family;
 use rows::Report;
 use rows::ahead;
 use rows::and_input;
@@ -13,6 +12,7 @@ use rows::go_back;
 use rows::is_none;
 use rows::new_of;
 use rows::turn;
+use table::Family;
 ghost use mathlib.Core.Path.{_≡_};
 ghost use mathlib.Core.Bool.{true, cond};
 ghost use mathlib.Core.List.{List};
@@ -82,13 +82,14 @@ pub fn next_step(
     both(first, both(k.report, add_node(rows, a, turn(every, k.end))))
 }
 
-// A[a V b]; E[a V b] is its dual.
-pub fn release_step(
+// The levels of a fixed-point node.
+pub fn fixpoint_step(
     targets: &[u32],
     rows: &mut [u32],
     words: &mut [u32],
     n: usize,
     base: usize,
+    family: Family,
     i: usize,
     every: bool,
     a: usize,
@@ -98,10 +99,10 @@ pub fn release_step(
     requires { ⌜ (i < 32) × ((a < 32) × ((b < 32) × (length (now rows) ≡ 130))) ⌝ }
     requires { ⌜ (n ≤ 32) × (length (now targets) ≡ 32) ⌝ }
     requires { ⌜ base + 2 * (n - 1) ≤ length (now words) ⌝ }
-    ensures { λ q. ⌜ stepped (now (rows .exit)) (now (words .exit)) q ≡ levelsFrom (now (targets .entry)) n (fixpointAt i every a b base) down n (memory (now (rows .entry)) (now (words .entry))) .done ⌝ }
+    ensures { λ q. ⌜ stepped (now (rows .exit)) (now (words .exit)) q ≡ levelsFrom (now (targets .entry)) n (fixpointAt family i every a b base) down n (memory (now (rows .entry)) (now (words .entry))) .done ⌝ }
 {
     let x = Fixpoint {
-        family: Family::Release,
+        family: family,
         node: i,
         a: a,
         b: b,

@@ -1,7 +1,6 @@
 // A level of a fixed-point node: level 0 is the row of b and level n that of the node, the others lie in the lent words from `base` on.
 use crate::layout::add_node;
 use crate::layout::node_row;
-use rows::Family;
 use rows::Joined;
 use rows::Report;
 use rows::Row;
@@ -13,6 +12,7 @@ use rows::is_none;
 use rows::join;
 use rows::row_at;
 use rows::turn;
+use table::Family;
 ghost use mathlib.Core.Path.{_≡_};
 ghost use Prim.Native.Nat.{_≤_, _<_};
 ghost use lib.ListN.{length};

@@ -1,16 +1,16 @@
 -- The rules of propagation on whole rows: for each gate, what the rows of its variables add to each other. Step gates, N and G have no row: what is
--- forced of them is worked out from the rows beside them. A and E, and AND and OR, are duals: the rules are those of A and of AND, and
+-- forced of them is worked out from the rows beside them. A and E, AND and OR, V and U, G and F are duals: the rules are those of A, AND, V and G, and
 -- `turned` takes the rows of the others.
 use Prim.Native.Nat.{ℕ}
-use mathlib.Core.Bool.{Bool, not, cond, _&&_, _||_}
+use mathlib.Core.Bool.{Bool, true, false, not, cond, _&&_, _||_}
 use lib.Bits.{bitAnd, bitOr}
 use lib.Dec.{eqb, ltb}
 use Rattle.sets.specs.Member.{member, setOf}
 use Rattle.rows.specs.declared.row.Row.{Row}
-use Rattle.rows.specs.declared.family.Family.{Family}
-use Rattle.rows.specs.declared.family.Family.the-variants.{Release}
-use Rattle.rows.specs.declared.family.Joined.{Joined}
-use Rattle.rows.specs.Row.{without, only, clashes}
+use Rattle.table.specs.declared.family.Family.{Family}
+use Rattle.table.specs.declared.family.Family.the-variants.{Release, Until, Eventually, Always}
+use Rattle.rows.specs.declared.joined.Joined.{Joined}
+use Rattle.rows.specs.Row.{turned, without, only, union, clashes}
 
 abbrev pub row : ℕ → ℕ → Row
 row t f = record { yes = t; no = f }
@@ -81,9 +81,64 @@ joinWith either level a b ahead = record {
 abbrev pub joinRelease : Row → Row → Row → Row → Joined
 joinRelease level a b ahead = joinWith (eitherRow level a b ahead) level a b ahead
 
--- what a level joins, by the family of its node
-abbrev pub joinOf : Family → Row → Row → Row → Row → Joined
-joinOf Release level a b ahead = joinRelease level a b ahead
+-- ---- a level of always: level = b and N, with what is known of the level in `up`
+
+abbrev pub joinUp : Row → Row → Row → Joined
+joinUp up b ahead = record {
+  level = up;
+  a = row 0 0;
+  b = andInput up ahead;
+  ahead = union ahead (andInput up b);
+  more = newOf (union ahead (andInput up b)) ahead;
+  fails = clashes (union ahead (andInput up b));
+}
+
+abbrev pub joinAlways : Row → Row → Row → Joined
+joinAlways level b ahead = joinUp (andOutput level b ahead) b ahead
+
+-- ---- a level, by the family of its node
+
+-- the levels of V and G fall from that of b, those of U and F rise from it
+abbrev pub falls : Family → Bool
+falls Release = true
+falls Until = false
+falls Eventually = false
+falls Always = true
+
+-- the rule of a family that falls, and that of which the family is the dual
+abbrev pub joinFalling : Family → Row → Row → Row → Row → Joined
+joinFalling Release level a b ahead = joinRelease level a b ahead
+joinFalling Until level a b ahead = joinRelease level a b ahead
+joinFalling Eventually level a b ahead = joinAlways level b ahead
+joinFalling Always level a b ahead = joinAlways level b ahead
+
+-- and what it has for G, where there is one
+abbrev pub innerFalling : Family → Row → Row → Row → Row → Row
+innerFalling Release level a b ahead = eitherRow level a b ahead
+innerFalling Until level a b ahead = eitherRow level a b ahead
+innerFalling Eventually level a b ahead = row 0 0
+innerFalling Always level a b ahead = row 0 0
+
+abbrev pub turnedJoined : Bool → Joined → Joined
+turnedJoined e J = record {
+  level = turned e (J .level);
+  a = turned e (J .a);
+  b = turned e (J .b);
+  ahead = turned e (J .ahead);
+  more = turned e (J .more);
+  fails = J .fails;
+}
+
+module _ (family : Family) (level a b ahead : Row) where
+  abbrev dual : Row → Row
+  dual = turned (falls family)
+
+  -- what a level joins
+  abbrev pub joinOf : Joined
+  joinOf = turnedJoined (falls family) (joinFalling family (dual level) (dual a) (dual b) (dual ahead))
+
+  abbrev pub innerOf : Row
+  innerOf = dual (innerFalling family (dual level) (dual a) (dual b) (dual ahead))
 
 -- ---- K of a state, and its steps
 

@@ -1,12 +1,11 @@
 // Rows of machine words, what is known of a variable at each state, and the rules on them.
-mod family;
+mod joined;
 mod next;
 mod row;
 mod rules;
 
-pub use family::Family;
-pub use family::Joined;
-pub use family::join;
+pub use joined::Joined;
+pub use joined::join;
 pub use next::Back;
 pub use next::Pushed;
 pub use next::ahead;

@@ -19,7 +19,8 @@ use Rattle.rows.specs.declared.row.Row.{Row}
 use Rattle.closure.specs.Closure.{given}
 use Rattle.rows.specs.Row.{known}
 use Rattle.rows.specs.Words.{rowAt, stepPlace}
-use Rattle.closure.specs.Knowledge.{Sized, levelBase}
+use Rattle.ctl.specs.Rule.{operatorOf}
+use Rattle.closure.specs.Knowledge.{Sized, secondChild, levelBase}
 use Rattle.propagate.specs.Memory.{nodePlace, keptPlace, memory}
 use Rattle.closure.specs.Inside.{literal, RowIn, StepsIn}
 use Rattle.closure.specs.Advance.{ForcedBy}
@@ -122,10 +123,10 @@ module _ (T : Table) (wf : Wellformed T) (rows words : List ℕ) (sized : Sized 
         steps = in-steps;
         kept = row-wider _ _ _ (row-other keptPlace (omega arith)) (b .below .kept);
         nodes = λ i h. row-wider _ _ _ (row-other (nodePlace i) (omega arith)) (b .below .nodes i h);
-        levels = λ i q x y m h o l. row-wider _ _ _
-            (λ k. cond (eqb m 0) (row-other (nodePlace (nodeAt T i .b)) (omega arith) k)
+        levels = λ i fam q x y m h o l. row-wider _ _ _
+            (λ k. cond (eqb m 0) (row-other (nodePlace (secondChild (operatorOf (nodeAt T i)))) (omega arith) k)
             (cond (eqb m (length (T .states))) (row-other (nodePlace i) (omega arith) k) (rowAt words (levelBase T i + 2 * (m - 1)))))
-            (b .below .levels i q x y m h o l);
+            (b .below .levels i fam q x y m h o l);
       };
     }
 

@@ -14,7 +14,8 @@ use Rattle.circuit.specs.Logic.{Literal}
 use Rattle.circuit.specs.Variables.{Var}
 use Rattle.rows.specs.Row.{known}
 use Rattle.rows.specs.Words.{rowAt, stepPlace}
-use Rattle.closure.specs.Knowledge.{Sized, levelRow, levelBase, levelTotal}
+use Rattle.ctl.specs.Rule.{operatorOf}
+use Rattle.closure.specs.Knowledge.{Sized, secondChild, levelRow, levelBase, levelTotal}
 use Rattle.propagate.specs.Memory.{nodePlace, keptPlace, memory}
 use Rattle.closure.specs.Closes.{Between}
 
@@ -56,7 +57,7 @@ module _ (T : Table) (rows words : List ℕ) (n : ℕ) where
       steps = b .below .steps;
       kept = b .below .kept;
       nodes = b .below .nodes;
-      levels = λ i q x y m h o l sign s e. b .below .levels i q x y m h o l sign s (level-less i (nodeAt T i .b) m sign s e);
+      levels = λ i fam q x y m h o l sign s e. b .below .levels i fam q x y m h o l sign s (level-less i (secondChild (operatorOf (nodeAt T i))) m sign s e);
     };
   }
 
@@ -70,13 +71,13 @@ none-between T n = record {
     steps = λ s h sign t e. never (zero-row 130 (stepPlace s) sign t) e;
     kept = λ sign s e. never (zero-row 130 keptPlace sign s) e;
     nodes = λ i h sign s e. never (zero-row 130 (nodePlace i) sign s) e;
-    levels = λ i q x y m h o l sign s e. never (none-level i m sign s (eqb m 0) (eqb m (length (T .states)))) e;
+    levels = λ i fam q x y m h o l sign s e. never (none-level i m sign s (eqb m 0) (eqb m (length (T .states)))) e;
   };
 }
   where
     none-level : (i m : ℕ) (sign : Bool) (s : ℕ) (x y : Bool)
-        → known (cond x (rowAt (replicate 130 0) (nodePlace (nodeAt T i .b))) (cond y (rowAt (replicate 130 0) (nodePlace i)) (rowAt (replicate n 0) (levelBase T i + 2 * (m - 1))))) sign s ≡ false
-    none-level i m sign s true y = zero-row 130 (nodePlace (nodeAt T i .b)) sign s
+        → known (cond x (rowAt (replicate 130 0) (nodePlace (secondChild (operatorOf (nodeAt T i))))) (cond y (rowAt (replicate 130 0) (nodePlace i)) (rowAt (replicate n 0) (levelBase T i + 2 * (m - 1))))) sign s ≡ false
+    none-level i m sign s true y = zero-row 130 (nodePlace (secondChild (operatorOf (nodeAt T i)))) sign s
     none-level i m sign s false true = zero-row 130 (nodePlace i) sign s
     none-level i m sign s false false = zero-row n _ sign s
 

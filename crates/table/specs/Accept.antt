@@ -49,7 +49,24 @@ distinct (x ∷ xs) = not (any (sameStep x) xs) && distinct xs
 
 -- 8: what the fields a and b of each kind are, from kind 0 on; every later kind is unknown
 abbrev pub shapes : List Shape
-shapes = Constant ∷ Constant ∷ Proposition ∷ Unary ∷ Binary ∷ Binary ∷ Unary ∷ Unary ∷ Binary ∷ Binary ∷ []
+shapes =
+    Constant
+    ∷ Constant
+    ∷ Proposition
+    ∷ Unary
+    ∷ Binary
+    ∷ Binary
+    ∷ Unary
+    ∷ Unary
+    ∷ Binary
+    ∷ Binary
+    ∷ Binary
+    ∷ Binary
+    ∷ Unary
+    ∷ Unary
+    ∷ Unary
+    ∷ Unary
+    ∷ []
 
 abbrev pub shapeOf : ℕ → Shape
 shapeOf kind = getD shapes kind Unknown

@@ -1,5 +1,6 @@
 // The packed table: its counts, sections and records, and the numbers of the refusals. Knows nothing of what a formula means.
 mod counts;
+mod family;
 mod part;
 mod record;
 mod refusal;
@@ -12,6 +13,9 @@ mod width;
 pub use counts::Counts;
 pub use counts::counts_of;
 pub use counts::packed_length;
+pub use family::Family;
+pub use family::family_of;
+pub use family::second_child;
 pub use record::Node;
 pub use record::State;
 pub use record::Step;

@@ -17,8 +17,8 @@ pub fn shape_of(kind: usize) -> Shape
     match kind {
         0 | 1 => Shape::Constant,
         2 => Shape::Proposition,
-        3 | 6 | 7 => Shape::Unary,
-        4 | 5 | 8 | 9 => Shape::Binary,
+        3 | 6 | 7 | 12 | 13 | 14 | 15 => Shape::Unary,
+        4 | 5 | 8 | 9 | 10 | 11 => Shape::Binary,
         _ => Shape::Unknown,
     }
 }

@@ -47,11 +47,13 @@ fn node(random: &mut Random, draft: &mut Draft) {
     let i = random.below(draft.nodes.len());
     let p = draft.counts[3];
     let node = &mut draft.nodes[i];
-    match random.below(5) {
-        0 => node[0] = random.pick(&[0, 1, 2, 3, 4, 5, 6, 7, 8, 9]),
-        1 => node[0] = random.pick(&[10, 11, 15, 16, 138, 255]),
+    match random.below(6) {
+        0 => node[0] = random.below(16) as u8,
+        1 => node[0] = random.pick(&[16, 16, 16, 17, 31, 144, 255]),
         2 => node[random.between(1, 2)] = (i as u8).wrapping_add(random.pick(&[0, 0, 1, 32, 255])),
         3 => *node = [2, p.wrapping_add(random.pick(&[0, 0, 1, 255])), 0],
+        // one child, and a second that would be lower too
+        4 => *node = [random.pick(&[3, 6, 7, 12, 13, 14, 15]), random.below(i.max(1)) as u8, random.between(1, i.max(2) - 1) as u8],
         _ => node[random.between(1, 2)] ^= 1 << random.below(8),
     }
 }

@@ -1,6 +1,9 @@
 // What holds where, over infinite paths, by searching the graph of the kept steps. There are no levels here.
 use crate::table::{Node, Table};
 
+// Which states are meant.
+type States<'a> = &'a dyn Fn(usize) -> bool;
+
 pub struct Graph {
     // for each state, where the kept steps out of it end
     next: Vec<Vec<usize>>,
@@ -25,24 +28,34 @@ impl Graph {
         self.next.iter().flatten().all(|&t| self.keeps(t))
     }
 
-    // Whether a path from s comes to a state without b, and a fails at all states before it. In a total list every path goes on for ever.
-    fn breaks(&self, s: usize, a: &[bool], b: &[bool], seen: &mut [bool]) -> bool {
-        if !b[s] {
+    // Whether a path from s comes to a goal, and no state before it is a stop. In a total list every path goes on for ever.
+    fn comes(&self, s: usize, goal: States, stop: States) -> bool {
+        self.comes_on(s, goal, stop, &mut vec![false; self.next.len()])
+    }
+
+    fn comes_on(&self, s: usize, goal: States, stop: States, seen: &mut [bool]) -> bool {
+        if goal(s) {
             return true;
         }
-        if a[s] || seen[s] {
+        if stop(s) || seen[s] {
             return false;
         }
         seen[s] = true;
-        self.next[s].iter().any(|&t| self.breaks(t, a, b, seen))
+        self.next[s].iter().any(|&t| self.comes_on(t, goal, stop, seen))
     }
 
-    // Whether a path from s stays in b until a holds too, or for ever. It stays for ever where it comes back to a state that it is on.
-    fn lasts(&self, s: usize, a: &[bool], b: &[bool], on: &mut [bool], seen: &mut [bool]) -> bool {
-        if !b[s] {
+    // Whether a path from s stays inside until it is at an end too, or for ever.
+    fn lasts(&self, s: usize, inside: States, end: States) -> bool {
+        let none = vec![false; self.next.len()];
+        self.lasts_on(s, inside, end, &mut none.clone(), &mut none.clone())
+    }
+
+    // The path stays for ever where it comes back to a state that it is on.
+    fn lasts_on(&self, s: usize, inside: States, end: States, on: &mut [bool], seen: &mut [bool]) -> bool {
+        if !inside(s) {
             return false;
         }
-        if a[s] || on[s] {
+        if end(s) || on[s] {
             return true;
         }
         if seen[s] {
@@ -50,24 +63,37 @@ impl Graph {
         }
         seen[s] = true;
         on[s] = true;
-        let found = self.next[s].iter().any(|&t| self.lasts(t, a, b, on, seen));
+        let found = self.next[s].iter().any(|&t| self.lasts_on(t, inside, end, on, seen));
         on[s] = false;
         found
     }
 
     fn holds(&self, table: &Table, node: &Node, sets: &[Vec<bool>], s: usize) -> bool {
-        let none = || vec![false; self.next.len()];
+        // only asked of kinds whose children are nodes
+        let (a, b) = (|t: usize| sets[node.a][t], |t: usize| sets[node.b][t]);
+        let (not_a, not_b) = (|t: usize| !a(t), |t: usize| !b(t));
+        let never = |_: usize| false;
         match node.kind {
             0 => false,
             1 => true,
             2 => table.labels[s] >> node.a & 1 == 1,
-            3 => !sets[node.a][s],
-            4 => sets[node.a][s] && sets[node.b][s],
-            5 => sets[node.a][s] || sets[node.b][s],
-            6 => self.next[s].iter().all(|&t| sets[node.a][t]),
-            7 => self.next[s].iter().any(|&t| sets[node.a][t]),
-            8 => !self.breaks(s, &sets[node.a], &sets[node.b], &mut none()),
-            _ => self.lasts(s, &sets[node.a], &sets[node.b], &mut none(), &mut none()),
+            3 => !a(s),
+            4 => a(s) && b(s),
+            5 => a(s) || b(s),
+            6 => self.next[s].iter().all(|&t| a(t)),
+            7 => self.next[s].iter().any(|&t| a(t)),
+            // release: no path loses b before a was there; one keeps b until a is there too, or for ever
+            8 => !self.comes(s, &not_b, &a),
+            9 => self.lasts(s, &b, &a),
+            // until: no path goes without b for ever, or to where a fails too; one comes to b, and a does not fail before
+            10 => !self.lasts(s, &not_b, &not_a),
+            11 => self.comes(s, &b, &not_a),
+            // eventually: no path goes without a for ever; one comes to a
+            12 => !self.lasts(s, &not_a, &never),
+            13 => self.comes(s, &a, &never),
+            // always: no path loses a; one keeps a for ever
+            14 => !self.comes(s, &not_a, &never),
+            _ => self.lasts(s, &a, &never),
         }
     }
 

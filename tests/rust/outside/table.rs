@@ -59,8 +59,8 @@ fn node_fits(node: &[u8], i: usize, p: usize) -> bool {
     match node[0] {
         0 | 1 => a == 0 && b == 0,
         2 => a < p && b == 0,
-        3 | 6 | 7 => a < i && b == 0,
-        4 | 5 | 8 | 9 => a < i && b < i,
+        3 | 6 | 7 | 12..=15 => a < i && b == 0,
+        4 | 5 | 8..=11 => a < i && b < i,
         _ => false,
     }
 }
@@ -79,7 +79,8 @@ pub fn variables(table: &Table) -> usize {
     let of_node = |node: &Node| match node.kind {
         0..=5 => n,
         6 | 7 => e + n,
-        _ => n + n * (e + 3 * n),
+        8..=11 => n + n * (e + 3 * n),
+        _ => n + n * (e + 2 * n),
     };
     e + n + table.nodes.iter().map(of_node).sum::<usize>()
 }

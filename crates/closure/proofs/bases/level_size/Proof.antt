@@ -1,7 +1,7 @@
 -- `level_size` meets its contract, kind by kind.
 use native.Mathlib.Omega.{arith}
 use borrow.Author.Needs.{needs}
-use Rattle.closure.proofs.LevelBases.{size-plain, size-release, size-unknown}
+use Rattle.closure.proofs.LevelBases.{size-plain, size-fixpoint, size-unknown}
 use Rattle.closure.proofs.bases.level_size.Statement.{statement}
 use Rattle.closure.proofs.bases.level_size.Tie as tie
 
@@ -12,7 +12,7 @@ mul-result : tie.Need-mul-result
 mul-result c = search needs
 
 returns : tie.Need-returns
-returns c = let a = c .before .before .args in λ x y. size-release (a .n) x y (a .kind) (omega arith) (omega arith)
+returns c = let a = c .before .before .args in λ x y. size-fixpoint (a .n) x y (a .kind) (omega arith) (omega arith)
 
 returns-2 : tie.Need-returns-2
 returns-2 c = let a = c .before .args in λ x y. size-plain (a .n) x y (a .kind) (omega arith)

@@ -1,11 +1,13 @@
 -- `node_states` meets its contract, kind by kind.
 use Prim.Native.Nat.{ℕ}
+use native.Mathlib.Omega.{arith}
 use mathlib.Core.Path.{sym, ap, _∙_}
-use lib.Bits.{bitAnd}
+use lib.Bits.{bitAnd, bitOr}
+use lib.ListN.{getD}
 use denote.Ref.{now}
-use Rattle.ctl.specs.Rule.{Operator}
-use Rattle.ctl.proofs.OfKind.{of-kind, no-kind}
-use Rattle.label.specs.Words.{nodeWord}
+use Rattle.ctl.specs.Rule.{Quantifier, Operator}
+use Rattle.ctl.proofs.OfKind.{of-kind, past-kinds, from-six, second-b, second-below, next-kind, fixpoint-kind}
+use Rattle.label.specs.Words.{nextWord, levelsWord, nodeWord}
 use borrow.Author.Needs.{needs}
 use Rattle.label.proofs.pass.node_states.Statement.{statement}
 use Rattle.label.proofs.pass.node_states.Tie as tie
@@ -14,179 +16,121 @@ use Rattle.label.proofs.pass.node_states.Tie as tie
 abbrev wordOf : tie.Start → Operator → ℕ
 wordOf s = nodeWord (now (s .args .rows)) (s .args .kept) (s .args .n) (now (s .args .states)) (now (s .args .words))
 
+-- the set of a node before it
+abbrev wordAt : tie.Start → ℕ → ℕ
+wordAt s i = getD (now (s .args .words)) i 0
+
+second-child-requires : tie.Need-second-child-requires
+second-child-requires c κs = search needs
+
+mul-a : tie.Need-mul-a
+mul-a c = search needs
+
+element-copy-out-a : tie.Need-element-copy-out-a
+element-copy-out-a c = search needs
+
+mul-b : tie.Need-mul-b
+mul-b c =
+    let start = c .before .before .before in
+    omega (arith, c .before .second-child .ensures, second-below (start .args .x) 32 (start .pre .1 .0) (start .pre .1 .1))
+
+element-copy-out-b : tie.Need-element-copy-out-b
+element-copy-out-b c =
+    let start = c .before .before .before in
+    omega (arith, c .before .second-child .ensures, second-below (start .args .x) 32 (start .pre .1 .0) (start .pre .1 .1))
+
 labelled-states-requires : tie.Need-labelled-states-requires
 labelled-states-requires c κs = search needs
 
-mul-result : tie.Need-mul-result
-mul-result c = search needs
-
-element-copy-out-result : tie.Need-element-copy-out-result
-element-copy-out-result c = search needs
-
-mul-result-2 : tie.Need-mul-result-2
-mul-result-2 c = search needs
-
-element-copy-out-result-2 : tie.Need-element-copy-out-result-2
-element-copy-out-result-2 c = search needs
-
-mul-result-3 : tie.Need-mul-result-3
-mul-result-3 c = search needs
-
-element-copy-out-result-3 : tie.Need-element-copy-out-result-3
-element-copy-out-result-3 c = search needs
-
-mul-result-4 : tie.Need-mul-result-4
-mul-result-4 c = search needs
-
-element-copy-out-result-4 : tie.Need-element-copy-out-result-4
-element-copy-out-result-4 c = search needs
-
-mul-result-5 : tie.Need-mul-result-5
-mul-result-5 c = search needs
-
-element-copy-out-result-5 : tie.Need-element-copy-out-result-5
-element-copy-out-result-5 c = search needs
-
-mul-next-states : tie.Need-mul-next-states
-mul-next-states c = search needs
-
-element-copy-out-next-states : tie.Need-element-copy-out-next-states
-element-copy-out-next-states c = search needs
+quantifier-of-requires : tie.Need-quantifier-of-requires
+quantifier-of-requires c κs = search needs
 
 next-states-requires : tie.Need-next-states-requires
 next-states-requires c κs = search needs
 
-mul-next-states-2 : tie.Need-mul-next-states-2
-mul-next-states-2 c = search needs
+family-of-requires : tie.Need-family-of-requires
+family-of-requires c κs = search needs
 
-element-copy-out-next-states-2 : tie.Need-element-copy-out-next-states-2
-element-copy-out-next-states-2 c = search needs
+quantifier-of-requires-2 : tie.Need-quantifier-of-requires-2
+quantifier-of-requires-2 c κs = search needs
 
-next-states-requires-2 : tie.Need-next-states-requires-2
-next-states-requires-2 c κs = search needs
-
-mul-release-states : tie.Need-mul-release-states
-mul-release-states c = search needs
-
-element-copy-out-release-states : tie.Need-element-copy-out-release-states
-element-copy-out-release-states c = search needs
-
-mul-release-states-2 : tie.Need-mul-release-states-2
-mul-release-states-2 c = search needs
-
-element-copy-out-release-states-2 : tie.Need-element-copy-out-release-states-2
-element-copy-out-release-states-2 c = search needs
-
-release-states-requires : tie.Need-release-states-requires
-release-states-requires c κs = search needs
-
-mul-release-states-3 : tie.Need-mul-release-states-3
-mul-release-states-3 c = search needs
-
-element-copy-out-release-states-3 : tie.Need-element-copy-out-release-states-3
-element-copy-out-release-states-3 c = search needs
-
-mul-release-states-4 : tie.Need-mul-release-states-4
-mul-release-states-4 c = search needs
-
-element-copy-out-release-states-4 : tie.Need-element-copy-out-release-states-4
-element-copy-out-release-states-4 c = search needs
-
-release-states-requires-2 : tie.Need-release-states-requires-2
-release-states-requires-2 c κs = search needs
+fixpoint-states-requires : tie.Need-fixpoint-states-requires
+fixpoint-states-requires c κs = search needs
 
 returns : tie.Need-returns
 unfolding nodeWord
-returns c =
-    let start = c .before .before in
-    sym (ap (wordOf start) (of-kind (start .args .x) 1 (c .match .keys1)))
+returns c = let start = c .before .before .before .before .before in sym (ap (wordOf start) (of-kind (start .args .x) 1 (c .match .keys1)))
 
 returns-2 : tie.Need-returns-2
 unfolding nodeWord
 returns-2 c =
-    let start = c .before .before .before in
+    let start = c .before .before .before .before .before .before in
     ap (bitAnd (start .args .kept)) (c .labelled-states .ensures) ∙ sym (ap (wordOf start) (of-kind (start .args .x) 2 (c .before .match .keys2)))
 
 returns-3 : tie.Need-returns-3
 unfolding nodeWord
-returns-3 c =
-    let start = c .before .before .before in
-    sym (ap (wordOf start) (of-kind (start .args .x) 3 (c .before .match .keys3)))
+returns-3 c = let start = c .before .before .before .before .before in sym (ap (wordOf start) (of-kind (start .args .x) 3 (c .match .keys3)))
 
 returns-4 : tie.Need-returns-4
 unfolding nodeWord
 returns-4 c =
-    let start = c .before .before .before .before in
-    sym (ap (wordOf start) (of-kind (start .args .x) 4 (c .before .before .match .keys4)))
+    let start = c .before .before .before .before .before in
+    let x = start .args .x in
+    ap (λ (i : ℕ). bitAnd (wordAt start (x .a)) (wordAt start i)) (c .before .before .before .second-child .ensures ∙ second-b x (omega (arith, c .match .keys4)))
+    ∙ sym (ap (wordOf start) (of-kind x 4 (c .match .keys4)))
 
 returns-5 : tie.Need-returns-5
 unfolding nodeWord
 returns-5 c =
-    let start = c .before .before .before .before in
-    sym (ap (wordOf start) (of-kind (start .args .x) 5 (c .before .before .match .keys5)))
+    let start = c .before .before .before .before .before in
+    let x = start .args .x in
+    ap (λ (i : ℕ). bitOr (wordAt start (x .a)) (wordAt start i)) (c .before .before .before .second-child .ensures ∙ second-b x (omega (arith, c .match .keys5)))
+    ∙ sym (ap (wordOf start) (of-kind x 5 (c .match .keys5)))
 
 returns-6 : tie.Need-returns-6
 unfolding nodeWord
 returns-6 c =
-    let start = c .before .before .before .before in
-    c .next-states .ensures ∙ sym (ap (wordOf start) (of-kind (start .args .x) 6 (c .before .before .match .keys6)))
+    let start = c .before .before .before .before .before .before .before .before .before in
+    let r = c .before .before .before .before .match .rest in
+    c .next-states .ensures
+    ∙ ap (λ (q : Quantifier). nextWord q (now (start .args .rows)) (start .args .n) (wordAt start (start .args .x .a))) (c .before .quantifier-of .ensures)
+    ∙ sym (ap (wordOf start) (next-kind (start .args .x) (from-six (start .args .x .kind) (omega arith) (r .0 .0 .0 .0 .1) (r .0 .0 .0 .1) (r .0 .0 .1) (r .0 .1) (r .1)) (omega arith)))
 
 returns-7 : tie.Need-returns-7
 unfolding nodeWord
 returns-7 c =
-    let start = c .before .before .before .before in
-    c .next-states2 .ensures ∙ sym (ap (wordOf start) (of-kind (start .args .x) 7 (c .before .before .match .keys7)))
+    let start = c .before .before .before .before .before .before .before .before .before .before .before in
+    let a = start .args in
+    let second = c .before .before .before .before .before .before .before .before .before .second-child in
+    let family = c .before .before .family-of in
+    let quantifier = c .before .quantifier-of2 in
+    c .fixpoint-states .ensures
+    ∙ (λ i. levelsWord (family .ensures i) (quantifier .ensures i) (now (a .rows)) (a .n) (wordAt start (a .x .a)) (wordAt start (second .ensures i)) (a .n))
+    ∙ sym (ap (wordOf start) (fixpoint-kind (a .x) (omega arith) (omega arith)))
 
 returns-8 : tie.Need-returns-8
 unfolding nodeWord
-returns-8 c =
-    let start = c .before .before .before .before .before in
-    c .release-states .ensures ∙ sym (ap (wordOf start) (of-kind (start .args .x) 8 (c .before .before .before .match .keys8)))
+returns-8 c = let start = c .before .before .before .before .before .before in sym (ap (wordOf start) (of-kind (start .args .x) 0 (omega arith)))
 
 returns-9 : tie.Need-returns-9
 unfolding nodeWord
-returns-9 c =
-    let start = c .before .before .before .before .before in
-    c .release-states2 .ensures ∙ sym (ap (wordOf start) (of-kind (start .args .x) 9 (c .before .before .before .match .keys9)))
-
-returns-10 : tie.Need-returns-10
-unfolding nodeWord
-returns-10 c =
-    let start = c .before .before in
-    let r = c .match .rest in
-    sym (ap (wordOf start) (no-kind (start .args .x) (r .0 .0 .0 .0 .0 .0 .0 .0 .1) (r .0 .0 .0 .0 .0 .0 .0 .1) (r .0 .0 .0 .0 .0 .0 .1) (r .0 .0 .0 .0 .0 .1) (r .0 .0 .0 .0 .1) (r .0 .0 .0 .1) (r .0 .0 .1) (r .0 .1) (r .1)))
+returns-9 c = let start = c .before .before .before .before .before .before .before .before in sym (ap (wordOf start) (past-kinds (start .args .x) (omega arith)))
 
 pub node-states-spec : {M : Type 1} → statement M
 node-states-spec =
     tie.close
     (tie.spec
+    second-child-requires
+    mul-a
+    element-copy-out-a
+    mul-b
+    element-copy-out-b
     labelled-states-requires
-    mul-result
-    element-copy-out-result
-    mul-result-2
-    element-copy-out-result-2
-    mul-result-3
-    element-copy-out-result-3
-    mul-result-4
-    element-copy-out-result-4
-    mul-result-5
-    element-copy-out-result-5
-    mul-next-states
-    element-copy-out-next-states
+    quantifier-of-requires
     next-states-requires
-    mul-next-states-2
-    element-copy-out-next-states-2
-    next-states-requires-2
-    mul-release-states
-    element-copy-out-release-states
-    mul-release-states-2
-    element-copy-out-release-states-2
-    release-states-requires
-    mul-release-states-3
-    element-copy-out-release-states-3
-    mul-release-states-4
-    element-copy-out-release-states-4
-    release-states-requires-2
+    family-of-requires
+    quantifier-of-requires-2
+    fixpoint-states-requires
     returns
     returns-2
     returns-3
@@ -195,5 +139,4 @@ node-states-spec =
     returns-6
     returns-7
     returns-8
-    returns-9
-    returns-10)
+    returns-9)

@@ -2,7 +2,7 @@
 use mathlib.Core.Path.{_≡_, ap, _∙_}
 use denote.Ref.{now}
 use Rattle.rows.specs.declared.row.Row.{Row}
-use Rattle.rows.specs.declared.family.Joined.{Joined}
+use Rattle.rows.specs.declared.joined.Joined.{Joined}
 use Rattle.propagate.specs.Memory.{memory, goBackMore}
 use Rattle.propagate.specs.Level.{levelAt, addLevel, addJoined, joinedAt, levelStep}
 use Rattle.propagate.proofs.Chain.{after, fits-on}

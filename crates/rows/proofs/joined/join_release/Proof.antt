@@ -1,7 +1,7 @@
 -- Where G is known both ways the second test is not made.
 use borrow.Author.Tests.{eq-eqb, ne-eqb}
-use Rattle.rows.proofs.family.join_release.Statement.{statement}
-use Rattle.rows.proofs.family.join_release.Tie as tie
+use Rattle.rows.proofs.joined.join_release.Statement.{statement}
+use Rattle.rows.proofs.joined.join_release.Tie as tie
 
 returns : tie.Need-returns
 returns c = rw (ne-eqb _ 0 (c .if1 .taken))

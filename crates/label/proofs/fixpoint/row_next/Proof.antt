@@ -1,8 +1,8 @@
 -- `row_next` meets its contract, quantifier by quantifier.
 use borrow.Author.Tests.{eq-eqb, ne-eqb}
 use borrow.Author.Needs.{needs}
-use Rattle.label.proofs.release.row_next.Statement.{statement}
-use Rattle.label.proofs.release.row_next.Tie as tie
+use Rattle.label.proofs.fixpoint.row_next.Statement.{statement}
+use Rattle.label.proofs.fixpoint.row_next.Tie as tie
 
 enum-told : tie.Need-enum-told
 enum-told c = search needs

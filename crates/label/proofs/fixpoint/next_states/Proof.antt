@@ -8,8 +8,8 @@ use denote.Ref.{now}
 use Rattle.sets.specs.Member.{setOf}
 use Rattle.sets.proofs.Collect.{collect}
 use Rattle.label.specs.Words.{quantifierOf, rowNext, nextWord}
-use Rattle.label.proofs.release.next_states.Statement.{statement}
-use Rattle.label.proofs.release.next_states.Tie as tie
+use Rattle.label.proofs.fixpoint.next_states.Statement.{statement}
+use Rattle.label.proofs.fixpoint.next_states.Tie as tie
 
 abbrev Inv-loop : tie.InvT-loop
 Inv-loop q rows n set states₀ s₀ states s = (s ≤ n) × (states ≡ setOf s (λ t. rowNext (quantifierOf q) (getD rows t 0) set))
