@@ -1,5 +1,5 @@
--- What the rows around a level add to each other is forced, whatever the family of its node. U is the dual of V and F that of G, so that this is shown
--- of V and G for literals of either sign.
+-- What the rows around a level add to each other is forced, whatever the family of its node. Until is the dual of release, and eventually that of
+-- always, so that this is shown of release and always, for literals of either sign.
 use Prim.Native.Nat.{ℕ, suc, _<_}
 use mathlib.Core.Path.{_≡_, refl}
 use mathlib.Core.Bool.{Bool, true, false, not}
@@ -114,22 +114,22 @@ module _ (T : Table) (wf : Wellformed T) (S : Literal Var → Type 0) (closed : 
   -- ---- the level = b and N
 
   module _ (L : (s : ℕ) → s < length (T .states) → ClosedPair S e (level s) (b s) (N s)) where
-    abbrev kept-on : Joined
-    kept-on = joinAlways (turned e l) (turned e y) (turned e z)
+    abbrev lasting : Joined
+    lasting = joinAlways (turned e l) (turned e y) (turned e z)
 
-    up-yes : SetIn (At T S e level) (kept-on .level .yes)
+    up-yes : SetIn (At T S e level) (lasting .level .yes)
     up-yes = set-or _ _ level-yes (set-and _ _ b-yes N-yes (λ s p r. (p .0, pair-up (L s (p .0)) (p .1) (r .1))))
 
-    up-no : SetIn (At T S (not e) level) (kept-on .level .no)
+    up-no : SetIn (At T S (not e) level) (lasting .level .no)
     up-no = set-or _ _ level-no (set-or _ _ (set-each _ b-no (λ s p. (p .0, left-false (L s (p .0)) (p .1))))
         (set-each _ N-no (λ s p. (p .0, right-false (L s (p .0)) (p .1)))))
 
-    N-up : RowIn T S N (turned e (kept-on .ahead))
+    N-up : RowIn T S N (turned e (lasting .ahead))
     N-up = turned-in T S e N _
         (set-or _ _ N-yes (set-each _ up-yes (λ s p. (p .0, pair-right (L s (p .0)) (p .1)))))
         (set-or _ _ N-no (set-and _ _ up-no b-yes (λ s p r. (p .0, right-last (L s (p .0)) (p .1) (r .1)))))
 
-    always-in : JoinIn T S level a b N (turnedJoined e kept-on)
+    always-in : JoinIn T S level a b N (turnedJoined e lasting)
     always-in = record {
       level-in = turned-in T S e level _ up-yes up-no;
       a-in = turned-in T S e a _ (set-none _) (set-none _);
@@ -137,7 +137,7 @@ module _ (T : Table) (wf : Wellformed T) (S : Literal Var → Type 0) (closed : 
           (set-each _ up-yes (λ s p. (p .0, pair-left (L s (p .0)) (p .1))))
           (set-and _ _ up-no N-yes (λ s p r. (p .0, left-last (L s (p .0)) (p .1) (r .1))));
       ahead-in = N-up;
-      clash = clash-in-turned T wf S closed e N (kept-on .ahead)
+      clash = clash-in-turned T wf S closed e N (lasting .ahead)
           (always-small _ _ _ (turned-small e l small-l) (turned-small e y small-y) (turned-small e z small-z) .ahead) N-up;
     }
 

@@ -120,7 +120,7 @@ module _ (level b ahead : Row) (s : ℕ) (clear : ClearAt s level)
     last-right = λ e f. or-true (ahead .no) _ s .1 (inr (and-true (U .no) (b .yes) s .1 (up-has false e, f)));
   }
 
--- ---- a level of any family: for U and F, of the duals of the rows
+-- ---- a level of any family: for until and eventually, of the duals of the rows
 
 -- what is taken back of N is what its ends did not say already
 pub joined-more : (fam : Family) (level a b ahead : Row) → joinOf fam level a b ahead .more ≡ newOf (joinOf fam level a b ahead .ahead) ahead

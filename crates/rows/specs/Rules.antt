@@ -1,6 +1,6 @@
 -- The rules of propagation on whole rows: for each gate, what the rows of its variables add to each other. Step gates, N and G have no row: what is
--- forced of them is worked out from the rows beside them. A and E, AND and OR, V and U, G and F are duals: the rules are those of A, AND, V and G, and
--- `turned` takes the rows of the others.
+-- forced of them is worked out from the rows beside them. A and E, AND and OR, release and until, always and eventually are duals: the
+-- rules are those of A, AND, release and always, and `turned` takes the rows of the others.
 use Prim.Native.Nat.{ℕ}
 use mathlib.Core.Bool.{Bool, true, false, not, cond, _&&_, _||_}
 use lib.Bits.{bitAnd, bitOr}
@@ -98,7 +98,7 @@ joinAlways level b ahead = joinUp (andOutput level b ahead) b ahead
 
 -- ---- a level, by the family of its node
 
--- the levels of V and G fall from that of b, those of U and F rise from it
+-- the levels of release and always fall from that of b, those of until and eventually rise from it
 abbrev pub falls : Family → Bool
 falls Release = true
 falls Until = false
@@ -133,7 +133,7 @@ module _ (family : Family) (level a b ahead : Row) where
   abbrev dual : Row → Row
   dual = turned (falls family)
 
-  -- what a level joins
+  -- what a level joins, and what it has for G
   abbrev pub joinOf : Joined
   joinOf = turnedJoined (falls family) (joinFalling family (dual level) (dual a) (dual b) (dual ahead))
 
