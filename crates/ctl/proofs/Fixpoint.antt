@@ -2,7 +2,7 @@
 -- U and F are duals of V and G: their levels are the opposites of those of the dual family, with the other quantifier, of the opposite sets.
 use Prim.Native.Nat.{ℕ, zero, suc, _<_}
 use mathlib.Core.Path.{_≡_, refl, sym, ap, ap₂, _∙_}
-use mathlib.Core.Bool.{Bool, true, false, not, _&&_, _||_, true≢false, false≢true}
+use mathlib.Core.Bool.{Bool, true, false, not, _&&_, _||_, true≢false, false≢true, Bool·not-not}
 use mathlib.Core.Logic.{_↔_}
 use mathlib.Core.List.{List, [], _∷_, List·Memᴰ, List·Memᴰ·head, List·Memᴰ·tail, List·Memᴰ·not-nil}
 use lib.ListN.{length}
@@ -55,15 +55,10 @@ all-not X Y (t ∷ ts) same =
     go true y = refl
     go false y = refl
 
+-- and the other way round
 any-not : (X Y : List Bool) (ts : List ℕ) → ((u : ℕ) → List·Memᴰ u ts → has Y u ≡ not (has X u)) → any (has Y) ts ≡ not (all (has X) ts)
-unfolding all any
-any-not X Y [] same = refl
-any-not X Y (t ∷ ts) same =
-    ap₂ _||_ (same t (List·Memᴰ·head refl)) (any-not X Y ts (λ u m. same u (List·Memᴰ·tail m))) ∙ go (has X t) (all (has X) ts)
-  where
-    go : (x y : Bool) → (not x || not y) ≡ not (x && y)
-    go true y = refl
-    go false y = refl
+any-not X Y ts same =
+    sym (Bool·not-not (any (has Y) ts)) ∙ ap not (sym (all-not Y X ts (λ u m. sym (Bool·not-not (has X u)) ∙ ap not (sym (same u m)))))
 
 next-dual : (q : Quantifier) (X Y : List Bool) {t : ℕ} (ts : List ℕ) → List·Memᴰ t ts → ((u : ℕ) → List·Memᴰ u ts → has Y u ≡ not (has X u))
     → nextIn (other q) Y ts ≡ not (nextIn q X ts)
@@ -154,20 +149,23 @@ module _ (n : ℕ) (next : ℕ → ℕ → Type 0) (targets : ℕ → List ℕ)
     other-twice every s P p = p
     other-twice some s P p = p
 
+    -- A family answers where its dual does: its level holds where that of the dual fails, and what the dual then says of opposites is undone.
+    dual-answers : (f : Family) (q : Quantifier) (A B : List Bool) (a b : ℕ → Type 0)
+        → ((π : ℕ → ℕ) → ((k : ℕ) → next (π k) (π (suc k))) → Along (dual (dual f)) (Not (Not a)) (Not (Not b)) π → Along f a b π)
+        → Answers (dual f) (other q) (opposite A) (opposite B) (Not a) (Not b) → Answers f q A B a b
+    dual-answers f q A B a b undo answer s t h true e =
+        on-each q next s (λ π path. undo π (path .steps)) (other-twice q s _ (answer s t h false (level-n-dual f q A B s t h true e)))
+    dual-answers f q A B a b undo answer s t h false e = answer s t h true (level-n-dual f q A B s t h false e)
+
     until-answers : (q : Quantifier) (A B : List Bool) (a b : ℕ → Type 0) → Means A a → Means B b → Answers Until q A B a b
-    until-answers q A B a b A-is B-is s t h true e = on-each q next s
-        (λ π path u. (u .0, decided B b B-is _ _ (path .steps (u .0)) (u .1), λ j l. decided A a A-is _ _ (path .steps j) (u .2 j l)))
-        (other-twice q s _ (release-answers (other q) (opposite A) (opposite B) (length-tabulate n _) (Not a) (Not b)
-        (opposite-means A a A-is) (opposite-means B b B-is) s t h false (level-n-dual Until q A B s t h true e)))
-    until-answers q A B a b A-is B-is s t h false e = release-answers (other q) (opposite A) (opposite B) (length-tabulate n _) (Not a) (Not b)
-        (opposite-means A a A-is) (opposite-means B b B-is) s t h true (level-n-dual Until q A B s t h false e)
+    until-answers q A B a b A-is B-is = dual-answers Until q A B a b
+        (λ π steps u. (u .0, decided B b B-is _ _ (steps (u .0)) (u .1), λ j l. decided A a A-is _ _ (steps j) (u .2 j l)))
+        (release-answers (other q) (opposite A) (opposite B) (length-tabulate n _) (Not a) (Not b) (opposite-means A a A-is) (opposite-means B b B-is))
 
     eventually-answers : (q : Quantifier) (A B : List Bool) (a b : ℕ → Type 0) → Means B b → Answers Eventually q A B a b
-    eventually-answers q A B a b B-is s t h true e = on-each q next s (λ π path u. (u .0, decided B b B-is _ _ (path .steps (u .0)) (u .1)))
-        (other-twice q s _ (always-answers (other q) (opposite A) (opposite B) (length-tabulate n _) (Not a) (Not b)
-        (opposite-means B b B-is) s t h false (level-n-dual Eventually q A B s t h true e)))
-    eventually-answers q A B a b B-is s t h false e = always-answers (other q) (opposite A) (opposite B) (length-tabulate n _) (Not a) (Not b)
-        (opposite-means B b B-is) s t h true (level-n-dual Eventually q A B s t h false e)
+    eventually-answers q A B a b B-is = dual-answers Eventually q A B a b
+        (λ π steps u. (u .0, decided B b B-is _ _ (steps (u .0)) (u .1)))
+        (always-answers (other q) (opposite A) (opposite B) (length-tabulate n _) (Not a) (Not b) (opposite-means B b B-is))
 
     -- ---- the four families
 

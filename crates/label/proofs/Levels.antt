@@ -1,7 +1,8 @@
 -- The levels of a fixed-point kind, on words.
 use Prim.Native.Nat.{ℕ, zero, suc, _≤_, _<_}
-use mathlib.Core.Path.{_≡_, refl, sym, ap, ap₂, _∙_}
-use mathlib.Core.Bool.{Bool, false, _&&_, _||_, and-false}
+use mathlib.Core.Path.{_≡_, sym, ap, ap₂, _∙_}
+use mathlib.Core.Bool.{Bool, false, _&&_, _||_, false≢true}
+use mathlib.Core.Logic.{⊎-elim}
 use mathlib.Core.List.{List}
 use native.Mathlib.Decide.{decLt}
 use native.Mathlib.Omega.{arith}
@@ -16,6 +17,8 @@ use Rattle.ctl.specs.Rule.{Quantifier}
 use Rattle.ctl.specs.Levels.{has, tabulate, iterate, nextIn, joined, level}
 use Rattle.ctl.specs.Labels.{targets}
 use Rattle.ctl.proofs.Tabulate.{getD-tabulate, getD-tabulate-past}
+use Rattle.table.proofs.Bools.{not-so}
+use Rattle.ctl.proofs.Joined.{joined-source}
 use Rattle.ctl.proofs.Stable.{level-mark}
 use Rattle.label.specs.Words.{nextWord, joinWord, levelWord, levelsWord}
 use Rattle.label.proofs.Marks.{and-word, or-word}
@@ -30,10 +33,7 @@ join-word Always a b x = and-word b x
 
 -- of nothing it is nothing
 joined-none : (f : Family) (a : Bool) → joined f a false false ≡ false
-joined-none Release a = refl
-joined-none Until a = and-false a
-joined-none Eventually a = refl
-joined-none Always a = refl
+joined-none f a = not-so (joined f a false false) (λ e. ⊎-elim false≢true false≢true (joined-source f a false false e))
 
 module _ (f : Family) (q : Quantifier) (next : ℕ → List ℕ) (n : ℕ) (A B Y : List Bool) (size : length B ≡ n) where
   -- the mark of a state in a level, of the marks of a and b and of the states at which the level below is next
