@@ -134,6 +134,14 @@ static void samples(void)
     holding("holding 1 1 0 1", sample, 36, kept, 4, 3, 0, states, 2);
     holding("holding one byte short", sample, 36, kept, 4, 2, 10, states, 0);
     holding("holding nothing kept", sample, 36, none, 4, 3, 0, states, 0);
+
+    /* The same with state 1 initial in place of state 0: it comes first. */
+    static const uint8_t turned[2] = {1, 0};
+    uint8_t later[36];
+    memcpy(later, sample, 36);
+    later[4] = 0;
+    later[7] = 1;
+    holding("holding with state 1 initial", later, 36, kept, 4, 3, 0, turned, 2);
 }
 
 /* The same damage to each of the three calls. */
@@ -364,6 +372,15 @@ static void largest_calls(void)
     label("label the largest table, one entry short", table, LARGEST, all, 128, 31, 10, words, 0);
     holding("holding of the largest table", table, LARGEST, all, 128, 32, 0, states, 32);
     holding("holding of the largest table, one byte short", table, LARGEST, all, 128, 31, 10, states, 0);
+    /* With the odd states initial, and they alone, these come first. */
+    for (unsigned s = 0; s < 32; s++)
+        table[4 + 3 * s] = s % 2;
+    for (unsigned k = 0; k < 16; k++) {
+        states[k] = (uint8_t)(2 * k + 1);
+        states[k + 16] = (uint8_t)(2 * k);
+    }
+    holding("holding of the largest table, odd states initial", table, LARGEST, all, 128, 32, 0, states, 32);
+    largest(table);
     struct room needed = {128, VARIABLES, VARIABLES}, short_by_one = {128, VARIABLES, VARIABLES - 1};
     repair("repair the largest table", table, LARGEST, 128, needed, found(128, all, 128, VARIABLES));
     repair("repair the largest table, cap 127", table, LARGEST, 127, needed, stopped(15, 127, VARIABLES));

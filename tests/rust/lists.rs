@@ -1,6 +1,7 @@
-// Runs every line of tests/data/lists.tsv through Judge, Label and Holding, and compares all buffers, with guard entries around them.
+// Runs every line of a file of lists through Judge, Label and Holding, and compares all buffers, with guard entries around them.
 //
-// A line: table, list, Judge's number; Label's number and its words; Holding's number, how many states it gives, and the states.
+// A line: table, list, Judge's number; Label's number and its words; Holding's number, how many states it gives, and the states. Files from before
+// Holding had an order have the states ascending, which a third argument, `ascending`, says: they are put into reading order here.
 mod fitter;
 mod vectors;
 
@@ -19,7 +20,7 @@ fn label_agrees(table: &[u8], list: &[u8], number: u32, words: &[u32]) -> bool {
     })
 }
 
-// The first bytes hold each state once, in any order; the rest stays.
+// The first bytes are the states; the rest stays.
 fn holding_agrees(table: &[u8], list: &[u8], number: u32, states: &[u8]) -> bool {
     let n = if table.is_empty() { 0 } else { table[0] as usize };
     let rooms = if number == 0 { vec![n, n + 3, n - 1] } else { vec![32] };
@@ -29,20 +30,22 @@ fn holding_agrees(table: &[u8], list: &[u8], number: u32, states: &[u8]) -> bool
         let mut count = GUARD;
         let got = fitter::holding(table, list, &mut buffer[2..2 + room], &mut count);
         let written = if wanted == 0 { states.len() } else { 0 };
-        let mut first = buffer[2..2 + written].to_vec();
-        first.sort();
-        let mut all = states[..written].to_vec();
-        all.sort();
         got == wanted
             && count == if wanted == 0 { states.len() as u32 } else { GUARD }
-            && first == all
-            && (0..buffer.len()).all(|i| (i >= 2 && i < 2 + written) || buffer[i] == 0xA5)
+            && (0..buffer.len()).all(|i| buffer[i] == if i >= 2 && i < 2 + written { states[i - 2] } else { 0xA5 })
     })
 }
 
-fn line_agrees(columns: &[String]) -> bool {
+// The initial states, ascending, then the others, ascending.
+fn in_reading_order(table: &[u8], mut states: Vec<u8>) -> Vec<u8> {
+    states.sort_by_key(|&s| (table[4 + 3 * s as usize] == 0, s));
+    states
+}
+
+fn line_agrees(columns: &[String], ascending: bool) -> bool {
     let [table, list, judge, label, words, holding, count, states] = columns else { return false };
     let (table, list, states) = (vectors::bytes(table), vectors::bytes(list), vectors::bytes(states));
+    let states = if ascending { in_reading_order(&table, states) } else { states };
     let (label, holding) = (vectors::number(label), vectors::number(holding));
     fitter::judge(&table, &list) == vectors::number(judge)
         && label_agrees(&table, &list, label, &vectors::numbers(words))
@@ -51,5 +54,6 @@ fn line_agrees(columns: &[String]) -> bool {
 }
 
 fn main() {
-    vectors::run("lists", line_agrees)
+    let ascending = std::env::args().nth(3).as_deref() == Some("ascending");
+    vectors::run("lists", |columns| line_agrees(columns, ascending))
 }

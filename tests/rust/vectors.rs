@@ -34,7 +34,7 @@ pub fn wanted(place: usize) -> usize {
 
 // Runs every line of the file that the program is called with, names those that differ, and ends the program: well where there are as many
 // as the call says and all agree.
-pub fn run(name: &str, agrees: fn(&[String]) -> bool) -> ! {
+pub fn run(name: &str, agrees: impl Fn(&[String]) -> bool) -> ! {
     let lines = read(&std::env::args().nth(1).expect("the file of vectors"));
     let wanted = wanted(2);
     let mut agreed = 0;

@@ -36,8 +36,8 @@ uint32_t fitter_label(const uint8_t *table, size_t table_len,
                       const uint8_t *list, size_t list_len,
                       uint32_t *out, size_t out_len);
 
-/* 0, the states at which the rule holds, a byte each, and how many they are. Else 2 to 11. The buffer needs a byte for each state of
- * the table; bytes past the states written stay as they were. */
+/* 0, the states at which the rule holds, a byte each, and how many they are: the initial states first, ascending, then the others,
+ * ascending. Else 2 to 11. The buffer needs a byte for each state of the table; bytes past the states written stay as they were. */
 uint32_t fitter_holding(const uint8_t *table, size_t table_len,
                         const uint8_t *list, size_t list_len,
                         uint8_t *out, size_t out_len, uint32_t *count);

@@ -28,7 +28,7 @@ use Rattle.label.specs.declared.holding.Holding.{Holding}
 use Rattle.label.specs.declared.holding.Holding.the-variants.{Count, Refused as HoldingRefused}
 use Rattle.label.specs.Calls.{labelBuffer, heldStates, holdingVerdict, holdingAt, holdingBuffer}
 use Rattle.label.proofs.Exact.{label-untouched, label-written}
-use Rattle.label.proofs.Held.{held-count, held-once, held-member, held-few}
+use Rattle.label.proofs.Held.{held-count, held-in-order, held-once, held-member, held-few, held-only}
 use Rattle.label.proofs.Order.{table-accepted, room-accepted}
 use Rattle.reader.specs.declared.answer.Read.{Read}
 use Rattle.reader.specs.declared.answer.Read.the-variants.{Refused as ReadRefused}
@@ -129,6 +129,8 @@ module _ (table list buffer : List ℕ) where
         let few = held-few (tableOf table) wf list in (
           held,
           record { each = held-member (tableOf table) wf list; once = held-once (tableOf table) list },
+          held-in-order (tableOf table) list,
+          λ others each order. held-only (tableOf table) wf list others (each .each) order,
           b .1,
           sym (b .1) ∙ held-count (tableOf table) list,
           subst (λ (after : List ℕ). Written held buffer after) (sym (held-after Accepted (b .0))) (front-written held buffer (length held) refl (omega (arith, room, few))),

@@ -23,6 +23,8 @@ use Rattle.closure.specs.Closure.{Marks}
 use Rattle.search.specs.Search.{found}
 use Rattle.search.specs.TableSearch.{searchUnder, listOf}
 use Rattle.label.specs.declared.holding.Holding.the-variants.{Count, Refused as HoldingRefused}
+use Rattle.label.specs.Analysis.{initialAt}
+use Rattle.label.specs.ReadingOrder.{InReadingOrder}
 use Rattle.label.specs.Calls.{labelVerdict, labelBuffer, holdingVerdict, holdingAnswer, holdingBuffer}
 use Rattle.reader.specs.declared.answer.Read.the-variants.{Length, Refused as ReadRefused}
 use Rattle.sheet.specs.Form.{Sheet, InRange, render}
@@ -76,10 +78,13 @@ pub record AfterHolding (table list buffer : List ℕ) : Type 0 where
   -- "1 to 13 .. leave every buffer untouched"
   pub untouched : (r : Refusal) → holdingAnswer table list (length buffer) ≡ HoldingRefused r
       → (holdingBuffer table list buffer ≡ buffer) × ((before : ℕ) → holdingCount (holdingAnswer table list (length buffer)) before ≡ before)
-  -- "writes the states of the root's set as Label has it, a byte each, each once, order free. Its answer is the number of ones in the root's set."
+  -- "writes the states of the root's set as Label has it, a byte each, each once .. Its answer is the number of ones in the root's set." And 02, A2:
+  -- "writes the initial states first, ascending, then the others, ascending"; there is no other list of which this is so
   pub written : (k : ℕ) → holdingAnswer table list (length buffer) ≡ Count k
       → (states : List ℕ)
       × EachOnce (marked (tableOf table) list (rootIndex (tableOf table))) states
+      × InReadingOrder (initialAt (tableOf table)) states
+      × ((others : List ℕ) → EachOnce (marked (tableOf table) list (rootIndex (tableOf table))) others → InReadingOrder (initialAt (tableOf table)) others → others ≡ states)
       × (length states ≡ k)
       × (k ≡ countOf 32 (marked (tableOf table) list (rootIndex (tableOf table))))
       × Written states buffer (holdingBuffer table list buffer)

@@ -69,7 +69,7 @@ pub extern "C" fn fitter_label(table: &[u8], list: &[u8], out: &mut [u32]) -> u3
     table::verdict_number(label::label_nodes(table, list, out))
 }
 
-// 0, the states of the root's set and their count, or the refusal's number and nothing written.
+// 0, the states of the root's set in reading order and their count, or the refusal's number and nothing written.
 #[no_mangle]
 pub extern "C" fn fitter_holding(table: &[u8], list: &[u8], out: &mut [u8], count: &mut u32) -> u32
     ensures { λ r. ⌜ r ≡ holdingNumber (holdingAnswer (now (table .entry)) (now (list .entry)) (length (now (out .entry)))) ⌝ }

@@ -2,18 +2,17 @@
 use Prim.Native.Nat.{ℕ}
 use mathlib.Core.Path.{_≡_, refl, sym, ap, _∙_}
 use mathlib.Core.List.{List}
-use lib.Dec.{eqb}
 use Rattle.sets.specs.Member.{setOf}
 use Rattle.table.specs.declared.refusal.Verdict.{Verdict}
 use Rattle.table.specs.declared.refusal.Verdict.the-variants.{Accepted, Refused}
-use Rattle.table.specs.Table.{Table, tableOf, stateAt}
+use Rattle.table.specs.Table.{Table, tableOf}
 use Rattle.table.specs.Facts.{Packed}
 use Rattle.table.proofs.Accepted.{accepted}
 use Rattle.ctl.specs.Rule.{rootIndex}
 use Rattle.ctl.specs.Labels.{isKept, marked}
 use Rattle.label.specs.declared.analysis.Room.{Room}
 use Rattle.label.specs.declared.analysis.Analysis.{Analysis}
-use Rattle.label.specs.Analysis.{analysisVerdict, analysisAt, analysisOf, labelWords}
+use Rattle.label.specs.Analysis.{analysisVerdict, initialAt, analysisAt, analysisOf, labelWords}
 use Rattle.label.proofs.Order.{table-accepted}
 
 at-verdict : (v : Verdict) (T : Table) (list : List ℕ) → analysisAt v T list .verdict ≡ v
@@ -35,7 +34,7 @@ module _ (room : Room) (table list : List ℕ) (a : Analysis) (e : a ≡ analysi
     whole : a ≡ analysisAt Accepted (tableOf table) list
     whole = e ∙ ap (λ (v : Verdict). analysisAt v (tableOf table) list) passed
 
-    pub initial-is : a .initial ≡ setOf 32 (λ s. eqb (stateAt (tableOf table) s .initial) 1)
+    pub initial-is : a .initial ≡ setOf 32 (initialAt (tableOf table))
     initial-is = ap (λ (x : Analysis). x .initial) whole
 
     pub kept-is : a .kept ≡ setOf 32 (isKept (tableOf table) list)

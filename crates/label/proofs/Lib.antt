@@ -7,6 +7,8 @@ pub mod Levels
 pub mod Kept
 pub mod PassWords
 pub mod Select
+pub mod Pairwise
 pub mod Lowest
+pub mod ReadingOrder
 pub mod Held
 pub mod Exact

@@ -3,28 +3,21 @@ use Prim.Native.Nat.{ℕ, _^_, _≤_, _<_}
 use mathlib.Core.Path.{_≡_, refl, sym, ap, _∙_}
 use mathlib.Core.Bool.{Bool, true, false, cond, not, _&&_, false≢true, and-true}
 use mathlib.Core.Logic.{⊎-elim}
-use mathlib.Core.List.{List, [], _∷_, List·Memᴰ, List·Memᴰ·head, List·Memᴰ·tail, List·Memᴰ·not-nil, List·Memᴰ·cases-cons}
+use mathlib.Core.List.{List, [], _∷_, List·Memᴰ, List·Memᴰ·not-nil, List·Memᴰ·cases-cons}
 use native.Mathlib.Omega.{arith}
 use borrow.Author.Tests.{eq-eqb, ne-eqb}
 use lib.Dec.{eqb}
 use Rattle.sets.specs.Member.{member, setOf, lowestOf}
 use Rattle.sets.proofs.SetOf.{member-setOf-below, some-member, lowestOf-has, lowestOf-least}
 use Rattle.sets.proofs.Laws.{member-zero}
-use Rattle.ctl.specs.Levels.{tabulate, select}
-use Rattle.ctl.proofs.Tabulate.{member-tabulate, tabulate-member}
-use Rattle.label.specs.Calls.{statesWith}
-use Rattle.label.proofs.Select.{Ascending, tabulate-ascending}
-
--- tests that agree on a list select the same
-pub select-cong : (p q : ℕ → Bool) (ks : List ℕ) → ((k : ℕ) → List·Memᴰ k ks → p k ≡ q k) → select p ks ≡ select q ks
-unfolding select
-select-cong p q [] e = refl
-select-cong p q (k ∷ ks) e =
-    (λ i. cond (e k (List·Memᴰ·head refl) i) (k ∷ select p ks) (select p ks))
-    ∙ ap (λ (xs : List ℕ). cond (q k) (k ∷ xs) xs) (select-cong p q ks (λ j m. e j (List·Memᴰ·tail m)))
+use Rattle.ctl.specs.Levels.{below, select}
+use Rattle.ctl.proofs.Select.{in-below}
+use Rattle.label.specs.ReadingOrder.{statesWith, Pairwise}
+use Rattle.label.proofs.Select.{select-cong}
+use Rattle.label.proofs.Pairwise.{tabulate-ascending}
 
 -- in an ascending list, the least number that has p is selected first
-select-least : (p : ℕ → Bool) (ks : List ℕ) → Ascending ks → (s : ℕ) → List·Memᴰ s ks → p s ≡ true → ((k : ℕ) → p k ≡ true → s ≤ k)
+select-least : (p : ℕ → Bool) (ks : List ℕ) → Pairwise _<_ ks → (s : ℕ) → List·Memᴰ s ks → p s ≡ true → ((k : ℕ) → p k ≡ true → s ≤ k)
     → select p ks ≡ s ∷ select (λ k. p k && not (eqb k s)) ks
 unfolding select
 select-least p [] up s m has least = absurd (List·Memᴰ·not-nil m)
@@ -43,14 +36,17 @@ select-least p (x ∷ ks) up s m has least = go (p x) refl (λ t. select-least p
         ∙ ap (λ (b : Bool). s ∷ cond (not b) (x ∷ select (λ k. p k && not (eqb k s)) ks) (select (λ k. p k && not (eqb k s)) ks)) (sym (eq-eqb x s (sym same)))
     go false e later = later (rest (λ q. false≢true (sym e ∙ ap p (sym q) ∙ has)))
 
+-- the states of a set that is given by a test are those that pass it
+pub set-states : (f : ℕ → Bool) → statesWith (below 32) (member (setOf 32 f)) ≡ select f (below 32)
+set-states f = select-cong (member (setOf 32 f)) f (below 32) (λ s m. member-setOf-below 32 f s (in-below 32 s .0 m))
+
 -- the lowest member of a set, and then the states of the set without it
 pub lowest-first : (set : ℕ) → lowestOf 32 (member set) < 32
-    → statesWith (member set) ≡ lowestOf 32 (member set) ∷ statesWith (member (setOf 32 (λ t. member set t && not (eqb t (lowestOf 32 (member set))))))
+    → statesWith (below 32) (member set) ≡ lowestOf 32 (member set) ∷ statesWith (below 32) (member (setOf 32 (λ t. member set t && not (eqb t (lowestOf 32 (member set))))))
 lowest-first set h =
     let s = lowestOf 32 (member set) in
-    select-least (member set) (tabulate 32 (λ k. k)) (tabulate-ascending 32 (λ k. k) (λ i j l. l)) s (member-tabulate 32 (λ k. k) s h) (lowestOf-has 32 (member set) h) (lowestOf-least 32 (member set))
-    ∙ ap (λ (xs : List ℕ). s ∷ xs) (select-cong _ _ (tabulate 32 (λ k. k))
-    (λ k m. let r = tabulate-member 32 (λ k. k) m in sym (member-setOf-below 32 (λ t. member set t && not (eqb t s)) k (rw (r .2) (r .1)))))
+    select-least (member set) (below 32) (tabulate-ascending 32 (λ k. k) (λ i j l. l)) s (in-below 32 s .1 h) (lowestOf-has 32 (member set) h) (lowestOf-least 32 (member set))
+    ∙ ap (λ (xs : List ℕ). s ∷ xs) (sym (set-states (λ t. member set t && not (eqb t s))))
 
 -- a set that is not empty has a lowest member below 32
 pub lowest-below : (set : ℕ) → set < 2 ^ 32 → ¬ (set ≡ 0) → lowestOf 32 (member set) < 32
@@ -65,5 +61,5 @@ select-none p [] e = refl
 select-none p (k ∷ ks) e = ap (λ (b : Bool). cond b (k ∷ select p ks) (select p ks)) (e k) ∙ select-none p ks e
 
 -- the empty set has no states
-pub no-states : statesWith (member 0) ≡ []
-no-states = select-none (member 0) (tabulate 32 (λ k. k)) member-zero
+pub no-states : statesWith (below 32) (member 0) ≡ []
+no-states = select-none (member 0) (below 32) member-zero

@@ -1,16 +1,13 @@
--- The laws of `select`, and lists in ascending order.
-use Prim.Native.Nat.{ℕ, zero, suc, _+_, _<_}
+-- The laws of `select`.
+use Prim.Native.Nat.{ℕ, zero, suc, _+_}
 use mathlib.Core.Path.{_≡_, refl, sym, ap, _∙_}
-use mathlib.Core.Bool.{Bool, true, false, cond}
-use mathlib.Core.List.{List, [], _∷_, List·Memᴰ, List·Memᴰ·head, List·Memᴰ·tail}
-use native.Mathlib.Nat.{not-suc-le-zero, le-of-suc-le-suc}
+use mathlib.Core.Bool.{Bool, true, false, cond, not, _&&_, and-true, and-false}
+use mathlib.Core.List.{List, [], _∷_, _++_, List·Memᴰ, List·Memᴰ·head, List·Memᴰ·tail}
 use native.Mathlib.Omega.{arith}
-use lib.ListN.{length, getD}
+use lib.ListN.{length}
 use Rattle.sets.specs.Member.{countOf}
 use Rattle.sets.proofs.SetOf.{countOf-low}
 use Rattle.ctl.specs.Levels.{tabulate, select}
-use Rattle.ctl.proofs.Select.{in-select}
-use Rattle.ctl.proofs.Tabulate.{tabulate-member}
 
 module _ (p : ℕ → Bool) where
   -- as many of f 0, .., f (n - 1) are selected as have p
@@ -26,38 +23,53 @@ module _ (p : ℕ → Bool) where
       go true = omega arith
       go false = omega arith
 
--- ---- lists in ascending order
+  -- of one list and then of another
+  pub select-append : (xs ys : List ℕ) → select p (xs ++ ys) ≡ select p xs ++ select p ys
+  unfolding select
+  select-append [] ys = refl
+  select-append (x ∷ xs) ys = go (p x) (select-append xs ys)
+    where
+      go : (b : Bool) → select p (xs ++ ys) ≡ select p xs ++ select p ys
+          → cond b (x ∷ select p (xs ++ ys)) (select p (xs ++ ys)) ≡ cond b (x ∷ select p xs) (select p xs) ++ select p ys
+      go true e = ap (λ (zs : List ℕ). x ∷ zs) e
+      go false e = e
 
--- each number is below those behind it
-abbrev pub Ascending : List ℕ → Type 0
-Ascending [] = Unit
-Ascending (x ∷ xs) = ((y : ℕ) → List·Memᴰ y xs → x < y) × Ascending xs
+module _ (p q : ℕ → Bool) where
+  -- tests that agree on a list select the same
+  pub select-cong : (ks : List ℕ) → ((k : ℕ) → List·Memᴰ k ks → p k ≡ q k) → select p ks ≡ select q ks
+  unfolding select
+  select-cong [] e = refl
+  select-cong (k ∷ ks) e =
+      (λ i. cond (e k (List·Memᴰ·head refl) i) (k ∷ select p ks) (select p ks))
+      ∙ ap (λ (xs : List ℕ). cond (q k) (k ∷ xs) xs) (select-cong ks (λ j m. e j (List·Memᴰ·tail m)))
 
-pub select-ascending : (p : ℕ → Bool) (ks : List ℕ) → Ascending ks → Ascending (select p ks)
-unfolding select
-select-ascending p [] a = tt
-select-ascending p (j ∷ ks) a = go (p j) (select-ascending p ks (a .1))
-  where
-    go : (b : Bool) → Ascending (select p ks) → Ascending (cond b (j ∷ select p ks) (select p ks))
-    go true r = (λ y m. a .0 y (in-select p ks y .0 m .0), r)
-    go false r = r
+  -- what p selects of those that have q has both
+  pub select-select : (ks : List ℕ) → select p (select q ks) ≡ select (λ k. p k && q k) ks
+  unfolding select
+  select-select [] = refl
+  select-select (k ∷ ks) = go (q k) (select-select ks)
+    where
+      both : List ℕ
+      both = select (λ k. p k && q k) ks
 
-pub tabulate-ascending : (n : ℕ) (f : ℕ → ℕ) → ((i j : ℕ) → i < j → f i < f j) → Ascending (tabulate n f)
-unfolding tabulate
-tabulate-ascending zero f up = tt
-tabulate-ascending (suc n) f up = (
-  λ y m. let r = tabulate-member n (λ s. f (suc s)) m in rw (r .2) (up zero (suc (r .0)) (omega arith)),
-  tabulate-ascending n (λ s. f (suc s)) (λ i j h. up (suc i) (suc j) (omega arith)),
-)
+      go : (b : Bool) → select p (select q ks) ≡ both → select p (cond b (k ∷ select q ks) (select q ks)) ≡ cond (p k && b) (k ∷ both) both
+      go true e = ap (λ (xs : List ℕ). cond (p k) (k ∷ xs) xs) e ∙ ap (λ (b : Bool). cond b (k ∷ both) both) (sym (and-true (p k)))
+      go false e = e ∙ ap (λ (b : Bool). cond b (k ∷ both) both) (sym (and-false (p k)))
 
--- what stands at an index is in the list
-pub getD-member : (xs : List ℕ) (i : ℕ) → i < length xs → List·Memᴰ (getD xs i 0) xs
-getD-member [] i h = absurd (not-suc-le-zero h)
-getD-member (x ∷ xs) zero h = List·Memᴰ·head refl
-getD-member (x ∷ xs) (suc i) h = List·Memᴰ·tail (getD-member xs i (le-of-suc-le-suc h))
+  -- those that have q and those that lack it are all
+  pub select-parts : (ks : List ℕ) → length (select (λ k. p k && q k) ks) + length (select (λ k. p k && not (q k)) ks) ≡ length (select p ks)
+  unfolding select
+  select-parts [] = refl
+  select-parts (k ∷ ks) = go (p k) (q k) (select-parts ks)
+    where
+      with-q : List ℕ
+      with-q = select (λ k. p k && q k) ks
 
-pub ascending-at : (xs : List ℕ) → Ascending xs → (i j : ℕ) → i < j → j < length xs → getD xs i 0 < getD xs j 0
-ascending-at [] a i j l h = absurd (not-suc-le-zero h)
-ascending-at (x ∷ xs) a i zero l h = absurd (not-suc-le-zero l)
-ascending-at (x ∷ xs) a zero (suc j) l h = a .0 (getD xs j 0) (getD-member xs j (le-of-suc-le-suc h))
-ascending-at (x ∷ xs) a (suc i) (suc j) l h = ascending-at xs (a .1) i j (le-of-suc-le-suc l) (le-of-suc-le-suc h)
+      without : List ℕ
+      without = select (λ k. p k && not (q k)) ks
+
+      go : (b c : Bool) → length with-q + length without ≡ length (select p ks)
+          → length (cond (b && c) (k ∷ with-q) with-q) + length (cond (b && not c) (k ∷ without) without) ≡ length (cond b (k ∷ select p ks) (select p ks))
+      go true true e = omega arith
+      go true false e = omega arith
+      go false c e = e

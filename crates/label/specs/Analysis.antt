@@ -2,7 +2,7 @@
 use Prim.Native.Nat.{ℕ}
 use mathlib.Core.Bool.{Bool, true}
 use mathlib.Core.List.{List}
-use lib.Dec.{leb, eqb}
+use lib.Dec.{leb}
 use lib.ListN.{length, replicate}
 use Rattle.sets.specs.Member.{setOf}
 use Rattle.table.specs.declared.refusal.Refusal.the-variants.{ShortBuffer, NotTotal}
@@ -10,7 +10,7 @@ use Rattle.table.specs.declared.refusal.Verdict.{Verdict}
 use Rattle.table.specs.declared.refusal.Verdict.the-variants.{Accepted, Refused}
 use Rattle.table.specs.Verdict.{require, _then_}
 use Rattle.table.specs.Table.{Table, tableOf, stateAt}
-use Rattle.table.specs.Accept.{tableVerdict, listVerdict}
+use Rattle.table.specs.Accept.{isInitial, tableVerdict, listVerdict}
 use Rattle.ctl.specs.Rule.{rootIndex}
 use Rattle.ctl.specs.Levels.{tabulate}
 use Rattle.ctl.specs.Labels.{isKept, marked}
@@ -40,6 +40,10 @@ analysisVerdict room table list =
 abbrev pub labelWords : Table → List ℕ → List ℕ
 labelWords T list = tabulate 32 (λ i. setOf 32 (marked T list i))
 
+-- s is an initial state
+abbrev pub initialAt : Table → ℕ → Bool
+initialAt T s = isInitial (stateAt T s)
+
 -- a refusal comes with no sets
 abbrev pub nothing : Verdict → Analysis
 nothing v = record { verdict = v; initial = 0; kept = 0; root = 0; words = replicate 32 0 }
@@ -48,7 +52,7 @@ nothing v = record { verdict = v; initial = 0; kept = 0; root = 0; words = repli
 abbrev pub analysisAt : Verdict → Table → List ℕ → Analysis
 analysisAt Accepted T list = record {
   verdict = Accepted;
-  initial = setOf 32 (λ s. eqb (stateAt T s .initial) 1);
+  initial = setOf 32 (initialAt T);
   kept = setOf 32 (isKept T list);
   root = setOf 32 (marked T list (rootIndex T));
   words = labelWords T list;

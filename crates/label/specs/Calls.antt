@@ -1,6 +1,5 @@
 -- 01, calls 3 and 4: what Label and Holding answer, and what every lent entry holds afterwards.
 use Prim.Native.Nat.{ℕ}
-use mathlib.Core.Bool.{Bool}
 use mathlib.Core.List.{List, _++_}
 use lib.ListN.{length, drop}
 use Rattle.table.specs.declared.refusal.Verdict.{Verdict}
@@ -9,12 +8,12 @@ use Rattle.table.specs.Verdict.{refusalNumber}
 use Rattle.table.specs.Buffer.{onAccepted, over}
 use Rattle.table.specs.Table.{Table, tableOf}
 use Rattle.ctl.specs.Rule.{rootIndex}
-use Rattle.ctl.specs.Levels.{below, select}
 use Rattle.ctl.specs.Labels.{marked}
 use Rattle.label.specs.declared.analysis.Room.the-variants.{Nodes, States}
 use Rattle.label.specs.declared.holding.Holding.{Holding}
 use Rattle.label.specs.declared.holding.Holding.the-variants.{Count, Refused as HoldingRefused}
-use Rattle.label.specs.Analysis.{analysisVerdict, labelWords}
+use Rattle.label.specs.Analysis.{analysisVerdict, initialAt, labelWords}
+use Rattle.label.specs.ReadingOrder.{readingOrder, statesWith}
 
 -- Label: f entries, bit s of entry i set exactly when s is marked for node i
 abbrev pub labelVerdict : List ℕ → List ℕ → ℕ → Verdict
@@ -24,13 +23,9 @@ abbrev pub labelBuffer : List ℕ → List ℕ → List ℕ → List ℕ
 labelBuffer table list buffer =
     onAccepted (labelVerdict table list (length buffer)) (over (length (tableOf table .nodes)) (labelWords (tableOf table) list) buffer) buffer
 
--- the states that have p. Their order is this definition's: ascending
-abbrev pub statesWith : (ℕ → Bool) → List ℕ
-statesWith p = select p (below 32)
-
--- Holding: the states of the root's set
+-- Holding: the states of the root's set, in reading order
 abbrev pub heldStates : Table → List ℕ → List ℕ
-heldStates T list = statesWith (marked T list (rootIndex T))
+heldStates T list = statesWith (readingOrder (initialAt T)) (marked T list (rootIndex T))
 
 abbrev pub holdingVerdict : List ℕ → List ℕ → ℕ → Verdict
 holdingVerdict table list room = analysisVerdict (States room) table list

@@ -1,4 +1,5 @@
 pub mod Words
 pub mod Analysis
+pub mod ReadingOrder
 pub mod Calls
 pub mod Exact

@@ -8,7 +8,9 @@ ghost use Prim.Native.Nat.{_≤_};
 ghost use mathlib.Core.List.{_++_};
 ghost use lib.ListN.{length, drop};
 ghost use Rattle.sets.specs.Member.{member};
-ghost use Rattle.label.specs.Calls.{statesWith, holdingAnswer, holdingBuffer};
+ghost use Rattle.ctl.specs.Levels.{below};
+ghost use Rattle.label.specs.ReadingOrder.{readingOrder, statesWith};
+ghost use Rattle.label.specs.Calls.{holdingAnswer, holdingBuffer};
 
 // The number of states, or why the call refused.
 pub enum Holding {
@@ -17,9 +19,9 @@ pub enum Holding {
 }
 
 // The states of a set, ascending, at the start of the buffer: the lowest member first, and then those of the rest.
-fn write_states(set: u32, out: &mut [u8])
-    requires { ⌜ length (statesWith (member set)) ≤ length (now out) ⌝ }
-    ensures { λ _. ⌜ now (out .exit) ≡ statesWith (member set) ++ drop (length (statesWith (member set))) (now (out .entry)) ⌝ }
+fn write_ascending(set: u32, out: &mut [u8])
+    requires { ⌜ length (statesWith (below 32) (member set)) ≤ length (now out) ⌝ }
+    ensures { λ _. ⌜ now (out .exit) ≡ statesWith (below 32) (member set) ++ drop (length (statesWith (below 32) (member set))) (now (out .entry)) ⌝ }
 {
     let mut left = set;
     let mut i = 0;
@@ -31,7 +33,19 @@ fn write_states(set: u32, out: &mut [u8])
     }
 }
 
-// The states of the root's set, a byte each; the answer is how many there are.
+// The states of a set in reading order: the initial ones at the start of the buffer, and the others behind them.
+fn write_states(set: u32, initial: u32, out: &mut [u8])
+    requires { ⌜ length (statesWith (readingOrder (member initial)) (member set)) ≤ length (now out) ⌝ }
+    ensures { λ _. ⌜ now (out .exit) ≡ statesWith (readingOrder (member initial)) (member set) ++ drop (length (statesWith (readingOrder (member initial)) (member set))) (now (out .entry)) ⌝ }
+{
+    let first = sets::intersection(set, initial);
+    let others = sets::minus(set, initial);
+    let k = sets::count(first) as usize;
+    write_ascending(first, out);
+    write_ascending(others, &mut out[k..]);
+}
+
+// The states of the root's set in reading order, a byte each; the answer is how many there are.
 pub fn holding_states(table: &[u8], list: &[u8], out: &mut [u8]) -> Holding
     ensures { λ r. ⌜ r ≡ holdingAnswer (now (table .entry)) (now (list .entry)) (length (now (out .entry))) ⌝ }
     ensures { λ _. ⌜ now (out .exit) ≡ holdingBuffer (now (table .entry)) (now (list .entry)) (now (out .entry)) ⌝ }
@@ -42,6 +56,6 @@ pub fn holding_states(table: &[u8], list: &[u8], out: &mut [u8]) -> Holding
         return Holding::Refused(refusal);
     }
     let root = a.root;
-    write_states(root, out);
+    write_states(root, a.initial, out);
     Holding::Count(sets::count(root))
 }

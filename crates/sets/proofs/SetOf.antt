@@ -1,7 +1,7 @@
 -- The set of the states that have a property, how many there are, and the lowest of them.
 use mathlib.Core.Path.{_≡_, refl, sym, ap, ap₂, _∙_}
 use mathlib.Core.Bool.{Bool, true, false, cond, _&&_, false≢true}
-use Prim.Native.Nat.{ℕ, zero, suc, _+_, _*_, _/_, _%_, _^_, _≤_, _<_}
+use Prim.Native.Nat.{ℕ, zero, suc, _+_, _*_, _/_, _%_, _^_, _≤_, _<_, zero-le}
 use native.Mathlib.Nat.{pow-suc, mod-lt, zero-lt-suc, not-suc-le-zero, le-of-suc-le-suc, lt-of-not-le}
 use native.Mathlib.Omega.{arith}
 use borrow.Author.Tests.{lt-ltb}
@@ -86,6 +86,25 @@ unfolding countOf
 countOf-cong zero f g same = refl
 countOf-cong (suc n) f g same =
     ap₂ (λ (x : ℕ) (b : Bool). x + cond b 1 0) (countOf-cong n f g (λ s h. same s (omega arith))) (same n (omega arith))
+
+countOf-le : (w : ℕ) (f : ℕ → Bool) → countOf w f ≤ w
+unfolding countOf
+countOf-le zero f = zero-le
+countOf-le (suc w) f = go (f w) (countOf-le w f)
+  where
+    go : (b : Bool) → countOf w f ≤ w → countOf w f + cond b 1 0 ≤ suc w
+    go true few = omega arith
+    go false few = omega arith
+
+-- where all states that have f are below n, there are at most n of them
+pub countOf-inside : (w n : ℕ) (f : ℕ → Bool) → ((s : ℕ) → f s ≡ true → s < n) → countOf w f ≤ n
+unfolding countOf
+countOf-inside zero n f inside = zero-le
+countOf-inside (suc w) n f inside = go (f w) refl (countOf-inside w n f inside)
+  where
+    go : (b : Bool) → f w ≡ b → countOf w f ≤ n → countOf w f + cond b 1 0 ≤ n
+    go true e few = omega (arith, countOf-le w f, inside w e)
+    go false e few = omega arith
 
 -- properties that agree below n have the same lowest state
 pub lowestOf-cong : (n : ℕ) (f g : ℕ → Bool) → ((s : ℕ) → s < n → f s ≡ g s) → lowestOf n f ≡ lowestOf n g

@@ -1,12 +1,12 @@
 -- Writing values to the front of a buffer, one after the other.
 use Prim.Native.Nat.{ℕ, zero, suc, _+_, _-_, _≤_, _<_}
 use mathlib.Core.Path.{_≡_, refl, sym, ap, _∙_}
-use mathlib.Core.List.{List, [], _∷_, _++_}
+use mathlib.Core.List.{List, [], _∷_, _++_, append-assoc, append-nil}
 use native.Mathlib.Nat.{le-of-suc-le-suc, not-suc-le-zero}
 use native.Mathlib.Numerals.{add-one}
 use native.Mathlib.Omega.{arith}
 use lib.ListN.{length, getD, take, drop, set, length-append, length-drop, List·getD-append}
-use lib.Seq.{length-take-le, take-length, getD-drop, getD-append-add}
+use lib.Seq.{length-take-le, take-length, getD-drop, getD-append-add, drop-drop, drop-length, take-append-seam, drop-append-seam}
 use Rattle.table.specs.Buffer.{over, Written}
 
 module _ {A : Type 0} where
@@ -26,6 +26,28 @@ module _ {A : Type 0} where
   -- all values
   pub over-all : (vs buffer : List A) → over (length vs) vs buffer ≡ vs ++ drop (length vs) buffer
   over-all vs buffer = ap (λ (xs : List A). xs ++ drop (length vs) buffer) (take-length vs)
+
+  -- ---- values written behind others, into the part of the buffer from there on
+
+  behind-size : (xs rest : List A) → length (xs ++ rest) - length xs ≡ length rest
+  behind-size xs rest = omega (arith, length-append xs rest)
+
+  -- the part that is lent
+  pub part-behind : (xs rest : List A) → take (length (xs ++ rest) - length xs) (drop (length xs) (xs ++ rest)) ≡ rest
+  part-behind xs rest = (λ i. take (behind-size xs rest i) (drop-append-seam xs rest i)) ∙ take-length rest
+
+  -- and the whole when the part comes back
+  pub put-behind : (xs rest after : List A) → take (length xs) (xs ++ rest) ++ (after ++ drop (length (xs ++ rest) - length xs) (drop (length xs) (xs ++ rest))) ≡ xs ++ after
+  put-behind xs rest after =
+      (λ i. take-append-seam xs rest i ++ (after ++ drop (behind-size xs rest i) (drop-append-seam xs rest i)))
+      ∙ ap (λ (end : List A). xs ++ (after ++ end)) (drop-length rest)
+      ∙ ap (λ (all : List A). xs ++ all) (append-nil after)
+
+  -- values in front, and others behind them, are all of them in front
+  pub front-behind : (xs ys buffer : List A) → xs ++ (ys ++ drop (length ys) (drop (length xs) buffer)) ≡ xs ++ ys ++ drop (length (xs ++ ys)) buffer
+  front-behind xs ys buffer =
+      ap (λ (rest : List A). xs ++ (ys ++ rest)) (drop-drop (length ys) (length xs) buffer ∙ ap (λ (k : ℕ). drop k buffer) (sym (length-append xs ys)))
+      ∙ sym (append-assoc xs ys (drop (length (xs ++ ys)) buffer))
 
 -- values in front of the rest, entry by entry
 pub front-written : (values before : List ℕ) (k : ℕ) → length values ≡ k → k ≤ length before → Written values before (values ++ drop k before)

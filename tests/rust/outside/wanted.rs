@@ -31,11 +31,14 @@ pub fn label(table: &[u8], list: &[u8], room: usize) -> Result<Vec<u32>, u32> {
     Ok(sets.iter().map(word).collect())
 }
 
-// The states that Holding writes, ascending.
+// The states that Holding writes, sorted: the initial ones before the others, and then by their numbers.
 pub fn holding(table: &[u8], list: &[u8], room: usize) -> Result<Vec<u8>, u32> {
     let sets = sets(table, list, room, |t| t.initial.len())?;
     let root = &sets[sets.len() - 1];
-    Ok((0..root.len()).filter(|&s| root[s]).map(|s| s as u8).collect())
+    let initial = accept(table)?.initial;
+    let mut states: Vec<usize> = (0..root.len()).filter(|&s| root[s]).collect();
+    states.sort_by_key(|&s| (!initial[s], s));
+    Ok(states.into_iter().map(|s| s as u8).collect())
 }
 
 // The bytes that Read writes.

@@ -1,6 +1,6 @@
 -- `holding_states` meets its contract: a refusal writes nothing, and an accepted list has the states of the root's set.
 use Prim.Native.Nat.{ℕ, _≤_}
-use mathlib.Core.Path.{_≡_, sym, ap, _∙_}
+use mathlib.Core.Path.{_≡_, sym, ap, ap₂, _∙_}
 use mathlib.Core.List.{List, _++_}
 use native.Mathlib.Omega.{arith}
 use borrow.Author.Tests.{leb-true}
@@ -12,28 +12,28 @@ use Rattle.table.specs.declared.refusal.Verdict.{Verdict}
 use Rattle.table.specs.declared.refusal.Verdict.the-variants.{Accepted}
 use Rattle.table.specs.Table.{tableOf}
 use Rattle.ctl.specs.Rule.{rootIndex}
-use Rattle.ctl.specs.Levels.{tabulate}
 use Rattle.ctl.specs.Labels.{marked}
-use Rattle.ctl.proofs.Tabulate.{tabulate-member}
 use Rattle.label.specs.declared.analysis.Analysis.{Analysis}
 use Rattle.label.specs.declared.analysis.Room.the-variants.{States}
 use Rattle.label.specs.declared.holding.Holding.the-variants.{Count}
-use Rattle.label.specs.Analysis.{analysisOf}
+use Rattle.label.specs.Analysis.{initialAt, analysisOf}
 use Rattle.table.specs.Buffer.{onAccepted}
-use Rattle.label.specs.Calls.{statesWith, heldStates, holdingAt}
+use Rattle.label.specs.ReadingOrder.{readingOrder, statesWith}
+use Rattle.label.specs.Calls.{heldStates, holdingAt}
 use Rattle.label.proofs.Order.{room-accepted}
-use Rattle.label.proofs.Analysed.{verdict-is, passed, packed, root-is}
-use Rattle.label.proofs.Lowest.{select-cong}
+use Rattle.label.proofs.Analysed.{verdict-is, passed, packed, initial-is, root-is}
+use Rattle.label.proofs.ReadingOrder.{order-cong}
 use Rattle.label.proofs.Held.{held-count, held-few}
 use borrow.Author.Needs.{needs}
 use Rattle.label.proofs.holding.holding_states.Statement.{statement}
 use Rattle.label.proofs.holding.holding_states.Tie as tie
 
 module _ (table list : List ℕ) (room : ℕ) (a : Analysis) (e : a ≡ analysisOf (States room) table list) (ok : a .verdict ≡ Accepted) where
-  states-are : (w : ℕ) → w ≡ setOf 32 (marked (tableOf table) list (rootIndex (tableOf table))) → statesWith (member w) ≡ heldStates (tableOf table) list
-  states-are w r =
-      ap (λ (m : ℕ). statesWith (member m)) r
-      ∙ select-cong _ _ (tabulate 32 (λ s. s)) (λ s m. let t = tabulate-member 32 (λ s. s) m in member-setOf-below 32 (marked (tableOf table) list (rootIndex (tableOf table))) s (rw (t .2) (t .1)))
+  states-are : (i w : ℕ) → i ≡ setOf 32 (initialAt (tableOf table)) → w ≡ setOf 32 (marked (tableOf table) list (rootIndex (tableOf table)))
+      → statesWith (readingOrder (member i)) (member w) ≡ heldStates (tableOf table) list
+  states-are i w f r =
+      ap₂ (λ (x y : ℕ). statesWith (readingOrder (member x)) (member y)) f r
+      ∙ order-cong _ _ _ _ (member-setOf-below 32 (initialAt (tableOf table))) (member-setOf-below 32 (marked (tableOf table) list (rootIndex (tableOf table))))
 
   count-is : (w : ℕ) → w ≡ setOf 32 (marked (tableOf table) list (rootIndex (tableOf table))) → countOf 32 (member w) ≡ length (heldStates (tableOf table) list)
   count-is w r =
@@ -60,7 +60,7 @@ returns-2 c =
     let root = root-is (States n) t l A E ok in (
       ap Count (c .count .ensures ∙ count-is t l n A E ok (A .root) root) ∙ sym (ap (λ (x : Verdict). holdingAt x (length (heldStates (tableOf t) l))) v),
       c .before .before .before .write-states .ensures
-          ∙ ap (λ (xs : List ℕ). xs ++ drop (length xs) out) (states-are t l n A E ok (A .root) root)
+          ∙ ap (λ (xs : List ℕ). xs ++ drop (length xs) out) (states-are t l n A E ok (A .initial) (A .root) (initial-is (States n) t l A E ok) root)
           ∙ sym (ap (λ (x : Verdict). onAccepted x (heldStates (tableOf t) l ++ drop (length (heldStates (tableOf t) l)) out) out) v),
     )
 
@@ -94,7 +94,7 @@ write-states-requires c κs =
     let A = c .before .before .before .analyse .result in
     let E = c .before .before .before .analyse .ensures in
     let ok = c .before .enum-told .given .1 in
-    rw (states-are t l n A E ok (A .root) (root-is (States n) t l A E ok)) (room-for t l n A E ok)
+    rw (states-are t l n A E ok (A .initial) (A .root) (initial-is (States n) t l A E ok) (root-is (States n) t l A E ok)) (room-for t l n A E ok)
 
 count-requires : tie.Need-count-requires
 count-requires c κs = search needs

@@ -1,126 +1,123 @@
--- `write_states` meets its contract. The loop's invariant: the first i states are written, and the others are those of what is left of the set.
-use Prim.Native.Nat.{ℕ, _+_, _-_, _^_, _≤_, _<_, zero-le}
-use mathlib.Core.Path.{_≡_, refl, sym, ap, _∙_}
+-- `write_states` meets its contract: the two parts of the set, one behind the other, are its states in reading order.
+use Prim.Native.Nat.{ℕ, _+_, _-_, _≤_}
+use mathlib.Core.Path.{_≡_, sym, ap, ap₂, _∙_}
 use mathlib.Core.Bool.{not, _&&_}
-use mathlib.Core.List.{List, [], head-eq-of-cons-eq, tail-eq-of-cons-eq}
-use native.Mathlib.Numerals.{add-one}
+use mathlib.Core.List.{List, _++_}
 use native.Mathlib.Omega.{arith}
 use borrow.Author.Needs.{needs}
-use lib.Dec.{eqb}
-use lib.ListN.{length, getD, drop, set, length-drop}
-use lib.Seq.{drop-cons}
+use lib.ListN.{length, take, drop, length-append, length-drop}
 use denote.Ref.{now}
-use Rattle.sets.specs.Member.{member, setOf, lowestOf}
-use Rattle.sets.proofs.SetOf.{setOf-lt}
-use Rattle.table.specs.Buffer.{over}
-use Rattle.table.proofs.Buffer.{over-next, over-length, over-all}
-use Rattle.label.specs.Calls.{statesWith}
-use Rattle.label.proofs.Lowest.{lowest-first, lowest-below, no-states}
+use Rattle.sets.specs.Member.{member, setOf, countOf}
+use Rattle.table.proofs.Buffer.{part-behind, put-behind, front-behind}
+use Rattle.ctl.specs.Levels.{below}
+use Rattle.label.specs.ReadingOrder.{readingOrder, statesWith}
+use Rattle.label.proofs.Select.{select-count}
+use Rattle.label.proofs.ReadingOrder.{order-sets}
 use Rattle.label.proofs.holding.write_states.Statement.{statement}
 use Rattle.label.proofs.holding.write_states.Tie as tie
 
--- at a turn: the lowest member left is the next state, and the others are those without it
-record Turn (vs : List ℕ) (i left : ℕ) : Type 0 where
-  inside : i < length vs
-  lowest : lowestOf 32 (member left) < 32
-  first : getD vs i 0 ≡ lowestOf 32 (member left)
-  rest : statesWith (member (setOf 32 (λ t. member left t && not (eqb t (lowestOf 32 (member left)))))) ≡ drop (i + 1) vs
+-- the states of a set, ascending
+abbrev ascending : ℕ → List ℕ
+ascending set = statesWith (below 32) (member set)
 
-turn : (vs : List ℕ) (i left : ℕ) → i ≤ length vs → statesWith (member left) ≡ drop i vs → left < 2 ^ 32 → ¬ (left ≡ 0) → Turn vs i left
-turn vs i left h e small d =
-    let low = lowest-below left small d in
-    let split = lowest-first left low in
-    let inside : i < length vs = omega (arith, ap length (sym e ∙ split), length-drop i vs) in
-    let both = sym split ∙ e ∙ drop-cons vs i 0 inside in
+abbrev ordered : ℕ → ℕ → List ℕ
+ordered set initial = statesWith (readingOrder (member initial)) (member set)
+
+-- the two parts: first those that the set shares with the initial ones, k of them, then the others; the buffer has room for both
+record Parts (set initial first others k : ℕ) (out : List ℕ) : Type 0 where
+  states : ordered set initial ≡ ascending first ++ ascending others
+  size : k ≡ length (ascending first)
+  fit : length (ascending first) + length (ascending others) ≤ length out
+
+parts-of : (set initial first others k : ℕ) (out : List ℕ) → first ≡ setOf 32 (λ t. member set t && member initial t) → others ≡ setOf 32 (λ t. member set t && not (member initial t))
+    → k ≡ countOf 32 (member first) → length (ordered set initial) ≤ length out → Parts set initial first others k out
+parts-of set initial first others k out f o n room =
+    let states : ordered set initial ≡ ascending first ++ ascending others = order-sets set initial ∙ sym (ap₂ (λ (x y : ℕ). ascending x ++ ascending y) f o) in
     record {
-      inside = inside;
-      lowest = low;
-      first = sym (head-eq-of-cons-eq both);
-      rest = tail-eq-of-cons-eq both ∙ ap (λ (k : ℕ). drop k vs) (sym (add-one i));
+      states = states;
+      size = n ∙ sym (select-count (member first) 32 (λ s. s));
+      fit = omega (arith, ap length states, length-append (ascending first) (ascending others), room);
     }
 
-abbrev Inv-loop : tie.InvT-loop
-Inv-loop set out₀ left₀ i₀ out left i =
-    (i ≤ length (statesWith (member set))) × (out ≡ over i (statesWith (member set)) out₀) × (statesWith (member left) ≡ drop i (statesWith (member set))) × (left < 2 ^ 32)
+-- what the second call is lent, and what the buffer holds after it
+module _ {set initial first others k : ℕ} {out : List ℕ} (p : Parts set initial first others k out) (mid : List ℕ)
+    (e : mid ≡ ascending first ++ drop (length (ascending first)) out) where
+  first-fits : k ≤ length mid
+  first-fits = omega (arith, p .size, p .fit, ap length e, length-append (ascending first) (drop (length (ascending first)) out), length-drop (length (ascending first)) out)
 
-abbrev μ-loop : tie.MeasureT-loop
-μ-loop set out₀ left₀ i₀ out left i = length (statesWith (member set)) - i
+  lent : take (length mid - k) (drop k mid) ≡ drop (length (ascending first)) out
+  lent = (λ i. take (length (e i) - p .size i) (drop (p .size i) (e i))) ∙ part-behind (ascending first) (drop (length (ascending first)) out)
 
-loop-holds : tie.Need-loop-holds Inv-loop μ-loop
-loop-holds c = (zero-le, refl, refl, c .before .fits .set .fits)
+  others-fit : length (ascending others) ≤ length (take (length mid - k) (drop k mid))
+  others-fit = omega (arith, p .fit, ap length lent, length-drop (length (ascending first)) out)
 
-lowest-requires : tie.Need-lowest-requires Inv-loop μ-loop
-lowest-requires c κs = search needs
+  whole : (after : List ℕ) → after ≡ ascending others ++ drop (length (ascending others)) (take (length mid - k) (drop k mid))
+      → take k mid ++ (after ++ drop (length mid - k) (drop k mid)) ≡ ordered set initial ++ drop (length (ordered set initial)) out
+  whole after w =
+      (λ i. take (p .size i) (e i) ++ (after ++ drop (length (e i) - p .size i) (drop (p .size i) (e i))))
+      ∙ put-behind (ascending first) (drop (length (ascending first)) out) after
+      ∙ ap (λ (xs : List ℕ). ascending first ++ xs) (w ∙ ap (λ (xs : List ℕ). ascending others ++ drop (length (ascending others)) xs) lent)
+      ∙ front-behind (ascending first) (ascending others) out
+      ∙ ap (λ (xs : List ℕ). xs ++ drop (length xs) out) (sym (p .states))
 
-cast-out : tie.Need-cast-out Inv-loop μ-loop
-cast-out c =
-    let l = c .before .before .loop in
-    let t = turn (statesWith (member (c .before .before .before .before .args .set))) (l .i) (l .left) (l .inv .0) (l .inv .2) (l .inv .3) (c .before .loop-test .taken) in
-    omega (arith, c .lowest .ensures, t .lowest)
+parts : (c : tie.After-count)
+    → let a = c .before .before .before .before .args in
+    Parts (a .set) (a .initial) (c .before .before .intersection .result) (c .before .minus .result) (c .count .result) (now (a .out))
+parts c =
+    let s = c .before .before .before .before in
+    parts-of (s .args .set) (s .args .initial) _ _ _ (now (s .args .out)) (c .before .before .intersection .ensures) (c .before .minus .ensures) (c .count .ensures) (s .pre)
 
-slice-write-out : tie.Need-slice-write-out Inv-loop μ-loop
-slice-write-out c =
-    let l = c .before .before .loop in
-    let vs = statesWith (member (c .before .before .before .before .args .set)) in
-    let t = turn vs (l .i) (l .left) (l .inv .0) (l .inv .2) (l .inv .3) (c .before .loop-test .taken) in
-    omega (arith, t .inside, ap length (l .inv .1), over-length (l .i) vs (now (c .before .before .before .before .args .out)) (omega arith) (omega arith))
+intersection-requires : tie.Need-intersection-requires
+intersection-requires c κs = search needs
 
-remove-requires : tie.Need-remove-requires Inv-loop μ-loop
-remove-requires c κs = search needs
+minus-requires : tie.Need-minus-requires
+minus-requires c κs = search needs
 
-add-i : tie.Need-add-i Inv-loop μ-loop
-add-i c =
-    let l = c .before .before .before .loop in
-    let t = turn (statesWith (member (c .before .before .before .before .before .args .set))) (l .i) (l .left) (l .inv .0) (l .inv .2) (l .inv .3) (c .before .before .loop-test .taken) in
-    omega (arith, t .inside)
+count-requires : tie.Need-count-requires
+count-requires c κs = search needs
 
-loop-less : tie.Need-loop-less Inv-loop μ-loop
-loop-less c =
-    let l = c .before .before .before .loop in
-    let t = turn (statesWith (member (c .before .before .before .before .before .args .set))) (l .i) (l .left) (l .inv .0) (l .inv .2) (l .inv .3) (c .before .before .loop-test .taken) in
-    omega (arith, t .inside)
+cast-k : tie.Need-cast-k
+cast-k c = search needs
 
-loop-again : tie.Need-loop-again Inv-loop μ-loop
-loop-again c =
-    let l = c .before .before .before .loop in
-    let a = c .before .before .before .before .before .args in
-    let vs = statesWith (member (a .set)) in
-    let t = turn vs (l .i) (l .left) (l .inv .0) (l .inv .2) (l .inv .3) (c .before .before .loop-test .taken) in
-    let low = c .before .lowest .ensures in
-    let gone : c .remove .result ≡ setOf 32 (λ k. member (l .left) k && not (eqb k (lowestOf 32 (member (l .left))))) =
-    c .remove .ensures ∙ ap (λ (s : ℕ). setOf 32 (λ k. member (l .left) k && not (eqb k s))) low in (
-      omega (arith, t .inside),
-      (λ j. set (l .inv .1 j) (l .i) ((low ∙ sym (t .first)) j)) ∙ over-next (l .i) vs (now (a .out)) 0 (t .inside) (omega (arith, t .inside)),
-      ap (λ (m : ℕ). statesWith (member m)) gone ∙ t .rest,
-      rw gone (setOf-lt 32 (λ k. member (l .left) k && not (eqb k (lowestOf 32 (member (l .left)))))),
-    )
+write-ascending-requires : tie.Need-write-ascending-requires
+write-ascending-requires c κs = omega (arith, parts (c .before) .fit)
 
-same-length : tie.Need-same-length Inv-loop μ-loop
-same-length c =
-    let l = c .before .loop in
-    omega (arith, ap length (l .inv .1), over-length (l .i) (statesWith (member (c .before .before .before .args .set))) (now (c .before .before .before .args .out)) (omega arith) (omega arith))
+sub-write-ascending : tie.Need-sub-write-ascending
+sub-write-ascending c = let w = c .before .before .write-ascending in first-fits (parts (c .before .before .before .before)) (w .last .1 .0) (w .ensures)
 
-returns : tie.Need-returns Inv-loop μ-loop
+part-write-ascending-start : tie.Need-part-write-ascending-start
+part-write-ascending-start c = let w = c .before .before .write-ascending in first-fits (parts (c .before .before .before .before)) (w .last .1 .0) (w .ensures)
+
+part-write-ascending-end : tie.Need-part-write-ascending-end
+part-write-ascending-end c = search needs
+
+write-ascending-requires-2 : tie.Need-write-ascending-requires-2
+write-ascending-requires-2 c κs = let w = c .before .before .before .write-ascending in others-fit (parts (c .before .before .before .before .before)) (w .last .1 .0) (w .ensures)
+
+returns : tie.Need-returns
 returns c =
-    let l = c .before .loop in
-    let vs = statesWith (member (c .before .before .before .args .set)) in
-    let none : drop (l .i) vs ≡ [] = sym (l .inv .2) ∙ ap (λ (m : ℕ). statesWith (member m)) (c .loop-test .left) ∙ no-states in
-    let done : l .i ≡ length vs = omega (arith, ap length none, length-drop (l .i) vs) in
-    l .inv .1 ∙ ap (λ (k : ℕ). over k vs (now (c .before .before .before .args .out))) done ∙ over-all vs (now (c .before .before .before .args .out))
+    let w = c .before .before .before .before .before .before .write-ascending in
+    let v = c .before .before .write-ascending2 in
+    whole (parts (c .before .before .before .before .before .before .before .before)) (w .last .1 .0) (w .ensures) (v .last .1 .0) (v .ensures)
+
+same-length : tie.Need-same-length
+same-length c =
+    let s = c .before .before .before .before .before .before .before .before .before .before .before .before in
+    let states = ordered (s .args .set) (s .args .initial) in
+    omega (arith, ap length (returns c), length-append states (drop (length states) (now (s .args .out))), length-drop (length states) (now (s .args .out)), s .pre)
 
 pub write-states-spec : {M : Type 1} → statement M
 write-states-spec =
     tie.close
     (tie.spec
-    Inv-loop
-    μ-loop
-    loop-holds
-    lowest-requires
-    cast-out
-    slice-write-out
-    remove-requires
-    add-i
-    loop-less
-    loop-again
+    intersection-requires
+    minus-requires
+    count-requires
+    cast-k
+    write-ascending-requires
+    sub-write-ascending
+    part-write-ascending-start
+    part-write-ascending-end
+    write-ascending-requires-2
     same-length
     returns)
