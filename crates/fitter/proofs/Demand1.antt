@@ -128,9 +128,8 @@ module _ (table list buffer : List ℕ) where
         let room = leb-true (length (tableOf table .states)) (length buffer) (room-accepted (States (length buffer)) table list (b .0)) in
         let few = held-few (tableOf table) wf list in (
           held,
-          record { each = held-member (tableOf table) wf list; once = held-once (tableOf table) list },
-          held-in-order (tableOf table) list,
-          λ others each order. held-only (tableOf table) wf list others (each .each) order,
+          record { each-once = record { each = held-member (tableOf table) wf list; once = held-once (tableOf table) list }; in-order = held-in-order (tableOf table) list },
+          λ others r. held-only (tableOf table) wf list others (r .each-once .each) (r .in-order),
           b .1,
           sym (b .1) ∙ held-count (tableOf table) list,
           subst (λ (after : List ℕ). Written held buffer after) (sym (held-after Accepted (b .0))) (front-written held buffer (length held) refl (omega (arith, room, few))),

@@ -73,20 +73,28 @@ pub record EachOnce (p : ℕ → Bool) (states : List ℕ) : Type 0 where
   pub each : (s : ℕ) → List·Memᴰ s states ↔ (p s ≡ true)
   pub once : (i j : ℕ) → i < length states → j < length states → getD states i 0 ≡ getD states j 0 → i ≡ j
 
+-- the root's set, as Label has it
+abbrev pub rootSet : List ℕ → List ℕ → ℕ → Bool
+rootSet table list = marked (tableOf table) list (rootIndex (tableOf table))
+
+-- "the states of the root's set as Label has it, .. each once" and, by 02's A2, "the initial states first, ascending, then the others, ascending"
+pub record RootStates (table list states : List ℕ) : Type 0 where
+  pub each-once : EachOnce (rootSet table list) states
+  pub in-order : InReadingOrder (initialAt (tableOf table)) states
+
 pub record AfterHolding (table list buffer : List ℕ) : Type 0 where
   pub refused : (r : Refusal) → (holdingAnswer table list (length buffer) ≡ HoldingRefused r) ↔ (holdingVerdict table list (length buffer) ≡ Refused r)
   -- "1 to 13 .. leave every buffer untouched"
   pub untouched : (r : Refusal) → holdingAnswer table list (length buffer) ≡ HoldingRefused r
       → (holdingBuffer table list buffer ≡ buffer) × ((before : ℕ) → holdingCount (holdingAnswer table list (length buffer)) before ≡ before)
-  -- "writes the states of the root's set as Label has it, a byte each, each once .. Its answer is the number of ones in the root's set." And 02, A2:
-  -- "writes the initial states first, ascending, then the others, ascending"; there is no other list of which this is so
+  -- "writes the states of the root's set .., a byte each": no other list is theirs, so no order is left free. "Its answer is the number of ones in the
+  -- root's set."
   pub written : (k : ℕ) → holdingAnswer table list (length buffer) ≡ Count k
       → (states : List ℕ)
-      × EachOnce (marked (tableOf table) list (rootIndex (tableOf table))) states
-      × InReadingOrder (initialAt (tableOf table)) states
-      × ((others : List ℕ) → EachOnce (marked (tableOf table) list (rootIndex (tableOf table))) others → InReadingOrder (initialAt (tableOf table)) others → others ≡ states)
+      × RootStates table list states
+      × ((others : List ℕ) → RootStates table list others → others ≡ states)
       × (length states ≡ k)
-      × (k ≡ countOf 32 (marked (tableOf table) list (rootIndex (tableOf table))))
+      × (k ≡ countOf 32 (rootSet table list))
       × Written states buffer (holdingBuffer table list buffer)
       × ((before : ℕ) → holdingCount (holdingAnswer table list (length buffer)) before ≡ k)
 

@@ -20,6 +20,7 @@ use Rattle.label.proofs.holding.write_states.Tie as tie
 abbrev ascending : ℕ → List ℕ
 ascending set = statesWith (below 32) (member set)
 
+-- and in reading order
 abbrev ordered : ℕ → ℕ → List ℕ
 ordered set initial = statesWith (readingOrder (member initial)) (member set)
 
