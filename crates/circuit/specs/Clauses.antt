@@ -2,8 +2,8 @@
 use Prim.Native.Nat.{ℕ}
 use mathlib.Core.List.{List, [], _∷_, _++_, map}
 use lib.ListN.{length}
-use lib.Dec.{eqb}
-use Rattle.table.specs.Table.{Table, stateAt, stepAt}
+use Rattle.table.specs.Table.{Table, stepAt}
+use Rattle.table.specs.Accept.{initialAt}
 use Rattle.ctl.specs.Rule.{rootIndex}
 use Rattle.circuit.specs.Logic.{Literal, pos, neg, gateClauses}
 use Rattle.circuit.specs.Variables.{Var, step, kept, concat, value}
@@ -16,7 +16,7 @@ Clause = List (Literal Var)
 module _ (T : Table) where
   -- the initial states, ascending
   abbrev pub initials : List ℕ
-  initials = select (λ s. eqb (stateAt T s .initial) 1) (below (length (T .states)))
+  initials = select (initialAt T) (below (length (T .states)))
 
   -- (not E, K(t)) per step into t; one clause of K(s) over all initial s; (not K(s), X(root, s)) per initial s
   unfoldable pub demands : List Clause

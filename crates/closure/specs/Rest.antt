@@ -8,6 +8,7 @@ use lib.ListN.{length}
 use Rattle.sets.specs.Member.{member, setOf}
 use Rattle.table.specs.declared.family.Family.{Family}
 use Rattle.table.specs.Table.{Table, stateAt, nodeAt}
+use Rattle.table.specs.Accept.{initialAt}
 use Rattle.table.specs.Rows.{targetSet}
 use Rattle.ctl.specs.Rule.{Quantifier, every, some, Operator, constant, atom, negation, conjunction, disjunction, next, fixpoint, operatorOf, rootIndex}
 use Rattle.rows.specs.declared.row.Row.{Row}
@@ -22,7 +23,7 @@ abbrev pub labelledSet : Table → ℕ → ℕ
 labelledSet T p = setOf (length (T .states)) (λ s. member (stateAt T s .label) p)
 
 abbrev pub initialSet : Table → ℕ
-initialSet T = setOf (length (T .states)) (λ s. eqb (stateAt T s .initial) 1)
+initialSet T = setOf (length (T .states)) (initialAt T)
 
 -- the states of a constant
 abbrev pub constantSet : Table → Bool → ℕ

@@ -3,12 +3,11 @@ use Prim.Native.Nat.{ℕ}
 use mathlib.Core.Bool.{Bool, not, _&&_, _||_}
 use mathlib.Core.List.{List}
 use lib.ListN.{length}
-use lib.Dec.{eqb}
 use Rattle.table.specs.declared.refusal.Refusal.the-variants.{NotTotal, NoInitialKept, RootFails}
 use Rattle.table.specs.declared.refusal.Verdict.{Verdict}
 use Rattle.table.specs.Verdict.{require, _then_}
-use Rattle.table.specs.Table.{Table, tableOf, stateAt}
-use Rattle.table.specs.Accept.{all, any, tableVerdict, listVerdict}
+use Rattle.table.specs.Table.{Table, tableOf}
+use Rattle.table.specs.Accept.{all, any, initialAt, tableVerdict, listVerdict}
 use Rattle.ctl.specs.Rule.{rootIndex}
 use Rattle.ctl.specs.Levels.{below}
 use Rattle.ctl.specs.Labels.{keptSteps, isKept, marked}
@@ -21,7 +20,7 @@ abbrev pub isTotal : Table → List ℕ → Bool
 isTotal T list = all (λ x. isKept T list (x .to)) (keptSteps (T .steps) list)
 
 abbrev pub isInitialKept : Table → List ℕ → ℕ → Bool
-isInitialKept T list s = eqb (stateAt T s .initial) 1 && isKept T list s
+isInitialKept T list s = initialAt T s && isKept T list s
 
 -- 12: an initial state is kept
 abbrev pub keepsInitial : Table → List ℕ → Bool

@@ -15,6 +15,7 @@ use Rattle.table.specs.declared.refusal.Refusal.{Refusal}
 use Rattle.table.specs.declared.refusal.Verdict.the-variants.{Accepted, Refused}
 use Rattle.table.specs.Buffer.{Written}
 use Rattle.table.specs.Table.{tableOf}
+use Rattle.table.specs.Accept.{initialAt}
 use Rattle.ctl.specs.Rule.{rootIndex}
 use Rattle.ctl.specs.Levels.{tabulate}
 use Rattle.ctl.specs.Labels.{marked}
@@ -23,7 +24,6 @@ use Rattle.closure.specs.Closure.{Marks}
 use Rattle.search.specs.Search.{found}
 use Rattle.search.specs.TableSearch.{searchUnder, listOf}
 use Rattle.label.specs.declared.holding.Holding.the-variants.{Count, Refused as HoldingRefused}
-use Rattle.label.specs.Analysis.{initialAt}
 use Rattle.label.specs.ReadingOrder.{InReadingOrder}
 use Rattle.label.specs.Calls.{labelVerdict, labelBuffer, holdingVerdict, holdingAnswer, holdingBuffer}
 use Rattle.reader.specs.declared.answer.Read.the-variants.{Length, Refused as ReadRefused}

@@ -6,13 +6,14 @@ use Rattle.sets.specs.Member.{setOf}
 use Rattle.table.specs.declared.refusal.Verdict.{Verdict}
 use Rattle.table.specs.declared.refusal.Verdict.the-variants.{Accepted, Refused}
 use Rattle.table.specs.Table.{Table, tableOf}
+use Rattle.table.specs.Accept.{initialAt}
 use Rattle.table.specs.Facts.{Packed}
 use Rattle.table.proofs.Accepted.{accepted}
 use Rattle.ctl.specs.Rule.{rootIndex}
 use Rattle.ctl.specs.Labels.{isKept, marked}
 use Rattle.label.specs.declared.analysis.Room.{Room}
 use Rattle.label.specs.declared.analysis.Analysis.{Analysis}
-use Rattle.label.specs.Analysis.{analysisVerdict, initialAt, analysisAt, analysisOf, labelWords}
+use Rattle.label.specs.Analysis.{analysisVerdict, analysisAt, analysisOf, labelWords}
 use Rattle.label.proofs.Order.{table-accepted}
 
 at-verdict : (v : Verdict) (T : Table) (list : List ℕ) → analysisAt v T list .verdict ≡ v

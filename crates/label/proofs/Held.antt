@@ -10,6 +10,7 @@ use lib.ListN.{length, getD}
 use Rattle.sets.specs.Member.{countOf}
 use Rattle.sets.proofs.SetOf.{countOf-inside}
 use Rattle.table.specs.Table.{Table}
+use Rattle.table.specs.Accept.{initialAt}
 use Rattle.table.specs.Facts.{Wellformed}
 use Rattle.table.proofs.Numbers.{neither-less}
 use Rattle.ctl.specs.Rule.{rootIndex}
@@ -17,7 +18,6 @@ use Rattle.ctl.specs.Labels.{marked}
 use Rattle.ctl.proofs.Targets.{next-inside}
 use Rattle.ctl.proofs.Meaning.{marked-kept}
 use Rattle.ctl.proofs.Select.{in-select}
-use Rattle.label.specs.Analysis.{initialAt}
 use Rattle.label.specs.ReadingOrder.{readingOrder, ReadBefore, InReadingOrder}
 use Rattle.label.specs.Calls.{heldStates}
 use Rattle.label.proofs.Pairwise.{pairwise-at}

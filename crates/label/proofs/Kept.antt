@@ -14,6 +14,7 @@ use Rattle.sets.proofs.Laws.{member-zero}
 use Rattle.sets.proofs.SetOf.{setOf-lt, member-setOf-below, empty}
 use Rattle.table.specs.declared.record.State.{State}
 use Rattle.table.specs.Table.{Table, stateWidth, stateOf, zeroState, stateAt}
+use Rattle.table.specs.Accept.{isInitial, initialAt}
 use Rattle.table.specs.Facts.{Wellformed}
 use Rattle.table.specs.StateSets.{initialWord, labelledWord}
 use Rattle.table.proofs.Bools.{same-test, not-so}
@@ -105,8 +106,8 @@ module _ (T : Table) (wf : Wellformed T) (states : List ℕ) (records : StateByt
   read-word test zeros = wider (length (T .states)) _ _ (wf .few-states) (λ s h. ap test (records s h)) (λ s h. ap test (state-past T s h) ∙ zeros)
 
   -- the initial states
-  pub initial-word : initialWord states (length (T .states)) ≡ setOf 32 (λ s. eqb (stateAt T s .initial) 1)
-  initial-word = read-word (λ x. eqb (x .initial) 1) refl
+  pub initial-word : initialWord states (length (T .states)) ≡ setOf 32 (initialAt T)
+  initial-word = read-word isInitial refl
 
   -- the states with p in their label
   pub labelled-word : (p : ℕ) → labelledWord states (length (T .states)) p ≡ setOf 32 (λ s. member (stateAt T s .label) p)

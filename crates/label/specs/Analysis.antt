@@ -9,8 +9,8 @@ use Rattle.table.specs.declared.refusal.Refusal.the-variants.{ShortBuffer, NotT
 use Rattle.table.specs.declared.refusal.Verdict.{Verdict}
 use Rattle.table.specs.declared.refusal.Verdict.the-variants.{Accepted, Refused}
 use Rattle.table.specs.Verdict.{require, _then_}
-use Rattle.table.specs.Table.{Table, tableOf, stateAt}
-use Rattle.table.specs.Accept.{isInitial, tableVerdict, listVerdict}
+use Rattle.table.specs.Table.{Table, tableOf}
+use Rattle.table.specs.Accept.{initialAt, tableVerdict, listVerdict}
 use Rattle.ctl.specs.Rule.{rootIndex}
 use Rattle.ctl.specs.Levels.{tabulate}
 use Rattle.ctl.specs.Labels.{isKept, marked}
@@ -39,10 +39,6 @@ analysisVerdict room table list =
 -- the set of each node as a word, bit s for state s: clear past the last node
 abbrev pub labelWords : Table → List ℕ → List ℕ
 labelWords T list = tabulate 32 (λ i. setOf 32 (marked T list i))
-
--- s is an initial state
-abbrev pub initialAt : Table → ℕ → Bool
-initialAt T s = isInitial (stateAt T s)
 
 -- a refusal comes with no sets
 abbrev pub nothing : Verdict → Analysis

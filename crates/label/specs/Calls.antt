@@ -7,12 +7,13 @@ use Rattle.table.specs.declared.refusal.Verdict.the-variants.{Accepted, Refused
 use Rattle.table.specs.Verdict.{refusalNumber}
 use Rattle.table.specs.Buffer.{onAccepted, over}
 use Rattle.table.specs.Table.{Table, tableOf}
+use Rattle.table.specs.Accept.{initialAt}
 use Rattle.ctl.specs.Rule.{rootIndex}
 use Rattle.ctl.specs.Labels.{marked}
 use Rattle.label.specs.declared.analysis.Room.the-variants.{Nodes, States}
 use Rattle.label.specs.declared.holding.Holding.{Holding}
 use Rattle.label.specs.declared.holding.Holding.the-variants.{Count, Refused as HoldingRefused}
-use Rattle.label.specs.Analysis.{analysisVerdict, initialAt, labelWords}
+use Rattle.label.specs.Analysis.{analysisVerdict, labelWords}
 use Rattle.label.specs.ReadingOrder.{readingOrder, statesWith}
 
 -- Label: f entries, bit s of entry i set exactly when s is marked for node i

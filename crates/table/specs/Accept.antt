@@ -13,7 +13,7 @@ use Rattle.table.specs.declared.record.Node.{Node}
 use Rattle.table.specs.declared.refusal.Refusal.the-variants.{Length, Counts as CountsRefused, StateRecord, NoInitial, StepEnd, RepeatedStep, NodeRecord, ListForm}
 use Rattle.table.specs.declared.refusal.Verdict.{Verdict}
 use Rattle.table.specs.Verdict.{require, _then_}
-use Rattle.table.specs.Table.{Table, tableOf, countsOf, packedLength, headerWidth}
+use Rattle.table.specs.Table.{Table, tableOf, stateAt, countsOf, packedLength, headerWidth}
 
 unfoldable pub all {ℓ} : {A : Type ℓ} → (A → Bool) → List A → Bool
 all p [] = true
@@ -34,6 +34,10 @@ stateFits p s = leb (s .initial) 1 && ltb (s .label) (2 ^ p)
 -- 5
 abbrev pub isInitial : State → Bool
 isInitial s = eqb (s .initial) 1
+
+-- the same of the state with this number
+abbrev pub initialAt : Table → ℕ → Bool
+initialAt T s = isInitial (stateAt T s)
 
 -- 6: both ends are states
 abbrev pub stepFits : ℕ → Step → Bool

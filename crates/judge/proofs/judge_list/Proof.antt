@@ -11,7 +11,8 @@ use Rattle.sets.proofs.SetOf.{setOf-cong, member-setOf-below}
 use Rattle.table.specs.declared.refusal.Refusal.the-variants.{NoInitialKept, RootFails}
 use Rattle.table.specs.declared.refusal.Verdict.the-variants.{Accepted}
 use Rattle.table.specs.Verdict.{require, _then_}
-use Rattle.table.specs.Table.{tableOf, stateAt}
+use Rattle.table.specs.Table.{tableOf}
+use Rattle.table.specs.Accept.{initialAt}
 use Rattle.table.proofs.Verdicts.{then-refused, then-next}
 use Rattle.ctl.specs.Labels.{isKept}
 use Rattle.ctl.specs.Tests.{isInitialKept, keepsInitial, rootMarked, judgeVerdict}
@@ -34,7 +35,7 @@ module _ (table list : List ℕ) (a : Analysis) (e : a ≡ analysisOf Any table 
   starts-are w f =
       f ∙ setOf-cong 32 _ _ (λ s h. λ i.
       (ap (λ (m : ℕ). member m s) (initial-is Any table list a e ok)
-      ∙ member-setOf-below 32 (λ s. eqb (stateAt (tableOf table) s .initial) 1) s h) i
+      ∙ member-setOf-below 32 (initialAt (tableOf table)) s h) i
       && (ap (λ (m : ℕ). member m s) (kept-is Any table list a e ok)
       ∙ member-setOf-below 32 (isKept (tableOf table) list) s h) i)
 

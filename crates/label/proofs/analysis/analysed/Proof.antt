@@ -10,8 +10,8 @@ use denote.Ref.{now}
 use Rattle.table.specs.declared.refusal.Refusal.the-variants.{NotTotal}
 use Rattle.table.specs.declared.refusal.Verdict.the-variants.{Accepted}
 use Rattle.table.specs.Verdict.{require}
-use Rattle.table.specs.Table.{tableOf, statesPart, stateAt}
-use Rattle.table.specs.Accept.{tableVerdict}
+use Rattle.table.specs.Table.{tableOf, statesPart}
+use Rattle.table.specs.Accept.{initialAt, tableVerdict}
 use Rattle.table.specs.Rows.{Rows}
 use Rattle.table.specs.StateSets.{initialWord}
 use Rattle.table.proofs.Accepted.{accepted, state-read}
@@ -26,7 +26,6 @@ use Rattle.label.proofs.Next.{KeptRows}
 use Rattle.label.proofs.Kept.{StateBytes, kept-word, total-word, initial-word}
 use Rattle.label.proofs.PassWords.{pass-words}
 use Rattle.label.proofs.Order.{refused-analysis}
-use lib.Dec.{eqb}
 use borrow.Author.Needs.{needs}
 use Rattle.label.proofs.analysis.analysed.Statement.{statement}
 use Rattle.label.proofs.analysis.analysed.Tie as tie
@@ -48,7 +47,7 @@ module _ (table list : List ℕ) (ok : tableVerdict table ≡ Accepted) (n : ℕ
   total-is : (k : ℕ) → k ≡ keptWord rows n → (b : Bool) → b ≡ totalRows rows k → b ≡ isTotal (tableOf table) list
   total-is k e b f = f ∙ ap (totalRows rows) (e ∙ ap (keptWord rows) here) ∙ total-word kept-rows
 
-  initial-is : (part : List ℕ) → part ≡ statesPart table → (k : ℕ) → k ≡ initialWord part n → k ≡ setOf 32 (λ s. eqb (stateAt (tableOf table) s .initial) 1)
+  initial-is : (part : List ℕ) → part ≡ statesPart table → (k : ℕ) → k ≡ initialWord part n → k ≡ setOf 32 (initialAt (tableOf table))
   initial-is part e k f = f ∙ (λ j. initialWord (e j) (here j)) ∙ initial-word (tableOf table) (accepted table ok .table) (statesPart table) bytes
 
   few-nodes : (f : ℕ) → f ≡ length (tableOf table .nodes) → f ≤ 32

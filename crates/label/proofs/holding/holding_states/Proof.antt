@@ -11,12 +11,13 @@ use Rattle.sets.proofs.SetOf.{member-setOf-below, countOf-cong}
 use Rattle.table.specs.declared.refusal.Verdict.{Verdict}
 use Rattle.table.specs.declared.refusal.Verdict.the-variants.{Accepted}
 use Rattle.table.specs.Table.{tableOf}
+use Rattle.table.specs.Accept.{initialAt}
 use Rattle.ctl.specs.Rule.{rootIndex}
 use Rattle.ctl.specs.Labels.{marked}
 use Rattle.label.specs.declared.analysis.Analysis.{Analysis}
 use Rattle.label.specs.declared.analysis.Room.the-variants.{States}
 use Rattle.label.specs.declared.holding.Holding.the-variants.{Count}
-use Rattle.label.specs.Analysis.{initialAt, analysisOf}
+use Rattle.label.specs.Analysis.{analysisOf}
 use Rattle.table.specs.Buffer.{onAccepted}
 use Rattle.label.specs.ReadingOrder.{readingOrder, statesWith}
 use Rattle.label.specs.Calls.{heldStates, holdingAt}
