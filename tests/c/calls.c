@@ -112,18 +112,41 @@ static void sheets(void)
     read_sheet("read one byte more", text, whole + 1, 36, 1);
 }
 
+/* 16 comes after 11 and 12, and before 13. */
+static void unreached(void)
+{
+    static const uint8_t loop[4] = {1, 1, 0, 1}, cut[4] = {1, 1, 0, 0}, dead[4] = {1, 0, 0, 1}, far[4] = {0, 0, 0, 1};
+    uint8_t table[36];
+    expect("judge a loop that is not reached", judge(sample, 36, loop, 4), 16);
+    expect("judge that loop and a dead end", judge(sample, 36, dead, 4), 11);
+    expect("judge that loop alone", judge(sample, 36, far, 4), 12);
+
+    /* a kept initial state is reached, with no step made */
+    memcpy(table, sample, 36);
+    table[10] = 1;
+    table[11] = 0;
+    expect("judge that loop with its state initial", judge(table, 36, loop, 4), 0);
+
+    /* the rule is false */
+    memcpy(table, sample, 36);
+    memset(table + 33, 0, 3);
+    expect("judge that loop, nothing holding", judge(table, 36, loop, 4), 16);
+    expect("judge without it, nothing holding", judge(table, 36, cut, 4), 13);
+}
+
 static void samples(void)
 {
     static const uint8_t kept[4] = {1, 1, 0, 1}, cut[4] = {1, 1, 0, 0}, all[4] = {1, 1, 1, 1};
     static const uint8_t dead[4] = {1, 1, 1, 0}, far[4] = {0, 0, 0, 1}, none[4] = {0, 0, 0, 0};
-    expect("judge 1 1 0 1", judge(sample, 36, kept, 4), 0);
+    expect("judge 1 1 0 1", judge(sample, 36, kept, 4), 16);
     expect("judge 1 1 0 0", judge(sample, 36, cut, 4), 0);
     expect("judge 1 1 1 1", judge(sample, 36, all, 4), 13);
     expect("judge 1 1 1 0", judge(sample, 36, dead, 4), 11);
     expect("judge 0 0 0 1", judge(sample, 36, far, 4), 12);
     expect("judge 0 0 0 0", judge(sample, 36, none, 4), 12);
 
-    /* p0 at states 1 and 2; an endless stretch of it only from the loop at 2; so the rule holds at 0 and 1. */
+    /* p0 at states 1 and 2; an endless stretch of it only from the loop at 2; so the rule holds at 0 and 1. That 2 is not reached matters to the
+     * judge alone. */
     static const uint32_t words[5] = {0, 6, 4, 3, 3};
     static const uint8_t states[2] = {0, 1};
     label("label 1 1 0 1", sample, 36, kept, 4, 5, 0, words, 5);
@@ -239,7 +262,8 @@ static void repairs_at(const char *what, const uint8_t *table, size_t table_len,
     repair(what, table, table_len, cap, words, refused(10));
 }
 
-/* So many steps among 12 states, ten at least out of each, and the rule "true": every step is chosen, and kept. */
+/* So many steps among 12 states, ten at least out of each, and the rule "true": every step is chosen, and kept. None leads to state 11, so those
+ * out of it are struck. */
 static size_t many_steps(uint8_t *table, unsigned steps)
 {
     const uint8_t counts[4] = {12, (uint8_t)steps, 1, 0}, node[3] = {1, 0, 0};
@@ -273,7 +297,7 @@ static void repair_no_list(const uint8_t *no_step)
 
 static void repairs(void)
 {
-    static const uint8_t kept[4] = {1, 1, 0, 1}, first[2] = {1, 0}, loop[1] = {1};
+    static const uint8_t kept[4] = {1, 1, 0, 0}, first[2] = {1, 0}, loop[1] = {1};
     static const uint8_t starts[17] = {2, 2, 1, 1, 1, 1, 0, 1, 0, 0, 0, 0, 1, 1, 2, 0, 0};
     static const uint8_t dead_end[15] = {2, 1, 1, 0, 1, 0, 0, 0, 0, 0, 0, 1, 1, 0, 0};
     static const uint8_t no_step[10] = {1, 0, 1, 0, 1, 0, 0, 1, 0, 0};
@@ -302,17 +326,19 @@ static void repairs(void)
     repairs_at("repair with no step", no_step, 10, 0, stopped(14, 0, 2));
     repair_no_list(no_step);
 
-    uint8_t table[301], all[128];
-    memset(all, 1, sizeof all);
+    uint8_t table[301], reached[128];
+    for (unsigned j = 0; j < 128; j++)
+        reached[j] = j % 12 != 11;
     struct room room = {ROOM, ROOM, ROOM};
     size_t len = many_steps(table, 128);
-    repairs_at("repair 128 steps", table, len, 128, found(128, all, 128, 152));
+    repairs_at("repair 128 steps", table, len, 128, found(128, reached, 128, 152));
     repairs_at("repair 128 steps, cap 127", table, len, 127, stopped(15, 127, 152));
     len = many_steps(table, 129);
     repair("repair 129 steps", table, len, 128, room, refused(3));
 }
 
-/* 32 states, 128 steps and 32 nodes: "true", and over it 31 times "true releases", which is true. */
+/* 32 states, 128 steps and 32 nodes: "true", and over it 31 times "true releases", which is true. All steps lead to states 0 to 3, and 0 alone is
+ * initial, so these four are reached and no other. */
 static void largest(uint8_t *table)
 {
     const uint8_t counts[4] = {32, 128, 32, 0}, first[3] = {1, 0, 0};
@@ -359,15 +385,18 @@ static size_t largest_sheet(const uint8_t *table, char *text)
 /* The largest table, with the most variables that there are. */
 static void largest_calls(void)
 {
-    uint8_t table[LARGEST], all[128], states[32];
+    uint8_t table[LARGEST], all[128], reached[128], states[32];
     uint32_t words[32];
     char text[4096];
     largest(table);
     memset(all, 1, sizeof all);
     memset(words, 0xFF, sizeof words);
+    for (unsigned j = 0; j < 128; j++)
+        reached[j] = j % 32 < 4;
     for (unsigned s = 0; s < 32; s++)
         states[s] = (uint8_t)s;
-    expect("judge the largest table", judge(table, LARGEST, all, 128), 0);
+    expect("judge the largest table", judge(table, LARGEST, reached, 128), 0);
+    expect("judge the largest table, every step kept", judge(table, LARGEST, all, 128), 16);
     label("label the largest table", table, LARGEST, all, 128, 32, 0, words, 32);
     label("label the largest table, one entry short", table, LARGEST, all, 128, 31, 10, words, 0);
     holding("holding of the largest table", table, LARGEST, all, 128, 32, 0, states, 32);
@@ -380,9 +409,14 @@ static void largest_calls(void)
         states[k + 16] = (uint8_t)(2 * k);
     }
     holding("holding of the largest table, odd states initial", table, LARGEST, all, 128, 32, 0, states, 32);
-    largest(table);
     struct room needed = {128, VARIABLES, VARIABLES}, short_by_one = {128, VARIABLES, VARIABLES - 1};
-    repair("repair the largest table", table, LARGEST, 128, needed, found(128, all, 128, VARIABLES));
+    /* With all of them initial, every step may stay. */
+    for (unsigned s = 0; s < 32; s++)
+        table[4 + 3 * s] = 1;
+    expect("judge the largest table, all states initial", judge(table, LARGEST, all, 128), 0);
+    repair("repair the largest table, all states initial", table, LARGEST, 128, needed, found(128, all, 128, VARIABLES));
+    largest(table);
+    repair("repair the largest table", table, LARGEST, 128, needed, found(128, reached, 128, VARIABLES));
     repair("repair the largest table, cap 127", table, LARGEST, 127, needed, stopped(15, 127, VARIABLES));
     repair("repair the largest table, one word short", table, LARGEST, 128, short_by_one, refused(10));
     size_t text_len = largest_sheet(table, text);
@@ -405,6 +439,12 @@ static void change(uint8_t *table, size_t at, unsigned value)
     table[at] = (uint8_t)value;
 }
 
+/* 0, 2 to 9, 11 to 13 or 16. */
+static int of_the_judge(unsigned number)
+{
+    return number == 16 || (number <= 13 && number != 1 && number != 10);
+}
+
 static void repair_changed(const char *what, size_t at, unsigned value, unsigned wanted)
 {
     uint8_t table[36];
@@ -412,16 +452,17 @@ static void repair_changed(const char *what, size_t at, unsigned value, unsigned
     repair_damaged(what, table, 36, wanted);
 }
 
-/* Any byte changed, to any value: the judge gives a number of its own, and what it refuses of the table, Repair refuses with the same number. */
+/* Any byte changed, to any value: the judge gives a number of its own, whether or not every kept step is reached, and what it refuses of the table,
+ * Repair refuses with the same number. */
 static void any_byte_changed(void)
 {
-    static const uint8_t list[4] = {1, 1, 0, 1};
+    static const uint8_t loop[4] = {1, 1, 0, 1}, cut[4] = {1, 1, 0, 0};
     for (unsigned at = 0; at < 36; at++)
         for (unsigned value = 0; value < 256; value++) {
             uint8_t table[36];
             change(table, at, value);
-            unsigned number = judge(table, 36, list, 4);
-            expect("a byte changed: a number of the judge's", number <= 13 && number != 1 && number != 10, 1);
+            unsigned number = judge(table, 36, cut, 4), other = judge(table, 36, loop, 4);
+            expect("a byte changed: a number of the judge's", of_the_judge(number) && of_the_judge(other), 1);
             if (number >= 2 && number <= 8)
                 repair_damaged("repair with a byte changed", table, 36, number);
         }
@@ -453,6 +494,7 @@ static void all_calls(void)
 {
     sheets();
     samples();
+    unreached();
     refusals();
     repairs();
     largest_calls();

@@ -1,5 +1,6 @@
-// Repair a second time, in the plain way: the net as explicit clauses, and the search over them with a counter for each clause and a trail
-// to undo. Written from the scope's text and A1 of document 02; it has nothing of the library.
+// Repair's search a second time, in the plain way: the net as explicit clauses, and the search over them with a counter for each clause and a
+// trail to undo. The list that it finds is the one before striking. Written from the scope's text and A1 of document 02; it has nothing of the
+// library.
 #![allow(dead_code)]
 
 // A literal is twice its variable's number, and one more where it is the opposite. Steps are the first variables.

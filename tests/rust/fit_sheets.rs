@@ -1,5 +1,8 @@
 // Runs the program fit on every vector of the files of sheets, on every example, and on inputs at the limits of reading, and compares what it
-// prints byte by byte. A vector: the text and the program's output in hex, `-` for no bytes.
+// prints byte by byte. A vector: the text and the program's output in hex, `-` for no bytes. In the files after the word `unstruck` the output has
+// the list before striking: it is struck here.
+mod striking;
+
 use std::io::{Read, Write};
 use std::process::{Command, Stdio};
 use std::time::Duration;
@@ -53,6 +56,31 @@ fn unhex(s: &str) -> Vec<u8> {
     (0..s.len() / 2).map(|i| u8::from_str_radix(&s[2 * i..2 * i + 2], 16).expect("hex")).collect()
 }
 
+// The output with its list struck. The steps stand in the output, and in the sheet which states are initial. Without a list it stays.
+fn struck(sheet: &[u8], output: Vec<u8>) -> Vec<u8> {
+    let (sheet, text) = (String::from_utf8_lossy(sheet), String::from_utf8(output).expect("an output"));
+    let Some((head, rows)) = text.split_once("from to kept\n") else { return text.into_bytes() };
+    let initial: Vec<bool> = sheet.lines().skip(3).take_while(|&line| line != "from to").map(|line| line.starts_with("1 ")).collect();
+    let rows: Vec<Vec<usize>> = rows.lines().map(|row| row.split(' ').map(|x| x.parse().expect("a number")).collect()).collect();
+    let steps: Vec<(usize, usize)> = rows.iter().map(|row| (row[0], row[1])).collect();
+    let list: Vec<u8> = rows.iter().map(|row| row[2] as u8).collect();
+    let mut struck = format!("{head}from to kept\n");
+    for ((from, to), kept) in steps.iter().zip(striking::strike(&initial, &steps, &list)) {
+        struck += &format!("{from} {to} {kept}\n");
+    }
+    struck.into_bytes()
+}
+
+fn run_file(t: &mut Tally, file: &str, unstruck: bool) {
+    let text = std::fs::read_to_string(file).expect("the vectors");
+    for (k, line) in text.lines().enumerate().skip(1) {
+        let columns: Vec<&str> = line.split('\t').collect();
+        let (sheet, output) = (unhex(columns[0]), unhex(columns[2]));
+        let output = if unstruck { struck(&sheet, output) } else { output };
+        t.check(&format!("{file}:{}", k + 1), &[&sheet], &output);
+    }
+}
+
 // A text of sheet form of exactly this length, with more states and steps than a table may have: read whole it is refused with 3.
 fn of_length(length: usize) -> Vec<u8> {
     let names = ["states edges nodes props\n255 255 1 0\ninitial label\n", "from to\n", "kind a b\n1 0 0\n"];
@@ -92,15 +120,16 @@ fn run_limits(t: &mut Tally, sheet: &[u8], output: &[u8]) {
 
 fn main() {
     let args: Vec<String> = std::env::args().collect();
-    let [_, program, examples, files @ ..] = &args[..] else { panic!("fit_sheets PROGRAM EXAMPLES VECTORS..") };
+    let [_, program, examples, files @ ..] = &args[..] else { panic!("fit_sheets PROGRAM EXAMPLES VECTORS.. unstruck VECTORS..") };
     let mut t = Tally { program: program.clone(), runs: 0, agreed: 0 };
     let mut failed = false;
+    let mut unstruck = false;
     for file in files {
-        let text = std::fs::read_to_string(file).expect("the vectors");
-        for (k, line) in text.lines().enumerate().skip(1) {
-            let columns: Vec<&str> = line.split('\t').collect();
-            t.check(&format!("{file}:{}", k + 1), &[&unhex(columns[0])], &unhex(columns[2]));
+        if file == "unstruck" {
+            unstruck = true;
+            continue;
         }
+        run_file(&mut t, file, unstruck);
         t.report(file, &mut failed);
     }
     for entry in std::fs::read_dir(examples).expect("the examples") {

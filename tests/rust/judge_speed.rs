@@ -79,6 +79,18 @@ mod plain {
         level
     }
 
+    // From the starts, by the rows of next states: `left` has those whose row is not yet added.
+    fn reached(rows: &[u32; 32], starts: u32) -> u32 {
+        let (mut reached, mut left) = (starts, starts);
+        while left != 0 {
+            let s = left.trailing_zeros() as usize;
+            let new = rows[s] & !reached;
+            reached |= new;
+            left = left & !(1 << s) | new;
+        }
+        reached
+    }
+
     pub fn judge(t: &[u8], list: &[u8]) -> u32 {
         let refused = check_table(t);
         if refused != 0 {
@@ -121,6 +133,9 @@ mod plain {
         let starts = kept & (0..n).filter(|&s| states[3 * s] == 1).fold(0, |k, s| k | 1 << s);
         if starts == 0 {
             return 12;
+        }
+        if kept & !reached(&rows, starts) != 0 {
+            return 16;
         }
         if starts & !sets[f - 1] != 0 {
             return 13;

@@ -1,8 +1,10 @@
 // Runs every line of a file of lists through Judge, Label and Holding, and compares all buffers, with guard entries around them.
 //
-// A line: table, list, Judge's number; Label's number and its words; Holding's number, how many states it gives, and the states. Files from before
-// Holding had an order have the states ascending, which a third argument, `ascending`, says: they are put into reading order here.
+// A line: table, list, Judge's number; Label's number and its words; Holding's number, how many states it gives, and the states. Words after the
+// count of lines say what an older file lacks. `ascending`: it is from before Holding had an order, and the states are put into reading order here.
+// `without-16`: it is from before the judge's 16, and where that comes in place of another number is worked out here.
 mod fitter;
+mod striking;
 mod vectors;
 
 const GUARD: u32 = 0xA5A5A5A5;
@@ -42,18 +44,25 @@ fn in_reading_order(table: &[u8], mut states: Vec<u8>) -> Vec<u8> {
     states
 }
 
-fn line_agrees(columns: &[String], ascending: bool) -> bool {
+// 16 is tested after 12 and before 13. Label and Holding do not test it.
+fn with_16(table: &[u8], list: &[u8], number: u32) -> u32 {
+    let tested = number == 0 || number == 13;
+    if tested && striking::strike_packed(table, list) != list { 16 } else { number }
+}
+
+fn line_agrees(columns: &[String], ascending: bool, without_16: bool) -> bool {
     let [table, list, judge, label, words, holding, count, states] = columns else { return false };
     let (table, list, states) = (vectors::bytes(table), vectors::bytes(list), vectors::bytes(states));
     let states = if ascending { in_reading_order(&table, states) } else { states };
-    let (label, holding) = (vectors::number(label), vectors::number(holding));
-    fitter::judge(&table, &list) == vectors::number(judge)
+    let (judge, label, holding) = (vectors::number(judge), vectors::number(label), vectors::number(holding));
+    let judge = if without_16 { with_16(&table, &list, judge) } else { judge };
+    fitter::judge(&table, &list) == judge
         && label_agrees(&table, &list, label, &vectors::numbers(words))
         && holding_agrees(&table, &list, holding, &states)
         && (holding != 0 || vectors::number(count) as usize == states.len())
 }
 
 fn main() {
-    let ascending = std::env::args().nth(3).as_deref() == Some("ascending");
-    vectors::run("lists", |columns| line_agrees(columns, ascending))
+    let [ascending, without_16] = vectors::flags(3, ["ascending", "without-16"]);
+    vectors::run("lists", |columns| line_agrees(columns, ascending, without_16))
 }

@@ -1,8 +1,9 @@
-// Compares all five calls of the library with a second reading of the scope's text and A1 of document 02, on drawn and damaged input, for some
-// seconds.
+// Compares all five calls of the library with a second reading of the scope's text and A1 to A3 of document 02, on drawn and damaged input, for
+// some seconds.
 // Arguments: seed (1), seconds (10). Prints how many calls agree, by kind and number; at the first difference its input, and ends with 1.
 mod clauses;
 mod fitter;
+mod striking;
 
 #[path = "outside/calls.rs"]
 mod calls;
@@ -31,7 +32,7 @@ mod table;
 #[path = "outside/wanted.rs"]
 mod wanted;
 
-use calls::{Calls, NAMES};
+use calls::{Calls, NAMES, NUMBERS};
 use draft::Draft;
 use random::Random;
 use std::time::{Duration, Instant};
@@ -47,10 +48,10 @@ fn list_calls(calls: &mut Calls, random: &mut Random, bytes: &[u8], list: &[u8])
     calls.holding(random, bytes, list, room)
 }
 
-// All sorts of lists for an accepted table; `found` is its repair.
-fn lists(random: &mut Random, table: &Table, found: Option<Vec<u8>>) -> Vec<Vec<u8>> {
+// All sorts of lists for an accepted table; `found` is its repair, struck and before that.
+fn lists(random: &mut Random, table: &Table, found: Vec<Vec<u8>>) -> Vec<Vec<u8>> {
     let e = table.steps.len();
-    let mut lists: Vec<Vec<u8>> = found.into_iter().collect();
+    let mut lists = found;
     lists.extend([vec![1; e], vec![0; e], draw::list(random, e)]);
     for _ in 0..3 {
         let mut list = draw::list(random, e);
@@ -123,7 +124,7 @@ fn round(calls: &mut Calls, random: &mut Random) -> Result<(), String> {
 
 fn report(calls: &Calls) {
     for (name, agreed) in NAMES.iter().zip(&calls.agreed) {
-        let by_number: Vec<String> = (0..16).filter(|&k| agreed[k] > 0).map(|k| format!("{k}: {}", agreed[k])).collect();
+        let by_number: Vec<String> = (0..NUMBERS).filter(|&k| agreed[k] > 0).map(|k| format!("{k}: {}", agreed[k])).collect();
         println!("outside: {name}, {} agree ({})", agreed.iter().sum::<u64>(), by_number.join(", "));
     }
 }
@@ -133,7 +134,7 @@ fn main() {
     let seed = arguments.first().copied().unwrap_or(1);
     let time = Duration::from_secs(arguments.get(1).copied().unwrap_or(10));
     let start = Instant::now();
-    let mut calls = Calls { agreed: [[0; 16]; 5] };
+    let mut calls = Calls { agreed: [[0; NUMBERS]; 5] };
     let mut rounds = 0;
     while start.elapsed() < time {
         let compared = round(&mut calls, &mut Random::new(seed, rounds));

@@ -1,8 +1,9 @@
 // Measures Repair on drawn tables against the plain search over explicit clauses, in one run. Times are of whole calls: the plain search
-// also builds its clauses. The two must agree on every table; how fast they are decides nothing here.
+// also builds its clauses, and both strike what they find. The two must agree on every table; how fast they are decides nothing here.
 mod clauses;
 mod fitter;
 mod sequence;
+mod striking;
 
 use sequence::Random;
 use std::hint::black_box;
@@ -240,6 +241,12 @@ fn library(lent: &mut Lent, table: &[u8], cap: u64) -> clauses::Answer {
     clauses::Answer { number, choices, list: lent.list[..written].to_vec() }
 }
 
+fn plain(table: &[u8], cap: u64) -> clauses::Answer {
+    let answer = clauses::repair(table, cap);
+    let list = if answer.number == 0 { striking::strike_packed(table, &answer.list) } else { vec![] };
+    clauses::Answer { list, ..answer }
+}
+
 // The shortest of three runs, in microseconds, and the answer. A long run is not repeated.
 fn timed(mut run: impl FnMut() -> clauses::Answer) -> (f64, clauses::Answer) {
     let mut best = f64::MAX;
@@ -311,7 +318,7 @@ fn measure(group: &Group, lent: &mut Lent) -> bool {
     for &seed in &group.seeds {
         let table = (group.table)(seed);
         let (time, answer) = timed(|| library(lent, black_box(&table), group.cap));
-        let (plain_time, plain_answer) = timed(|| clauses::repair(black_box(&table), group.cap));
+        let (plain_time, plain_answer) = timed(|| plain(black_box(&table), group.cap));
         if answer != plain_answer {
             println!("{}, seed {}: the library {:?}, the plain search {:?}", group.name, seed, answer, plain_answer);
             same = false;

@@ -1,9 +1,12 @@
-// Runs every line of tests/data/tables.tsv through Repair, and compares the number, the choices and every entry of the three buffers, with
-// guard entries around them. Where a table is accepted, the plain search over explicit clauses must agree too, and so must the judge.
+// Runs every line of a file of tables through Repair, and compares the number, the choices and every entry of the three buffers, with
+// guard entries around them. Where a table is accepted, the plain search over explicit clauses must agree on the list before striking, and the
+// judge must accept the written one.
 //
-// A line: table, refusal (0: none), variables, cap, answer, choices, list.
+// A line: table, refusal (0: none), variables, cap, answer, choices, list, list before striking. Files from before the striking have that one
+// alone, which the word `unstruck` after the count of lines says: it is struck here.
 mod clauses;
 mod fitter;
+mod striking;
 mod vectors;
 
 struct Vector {
@@ -13,6 +16,7 @@ struct Vector {
     cap: u64,
     choices: u64,
     list: Vec<u8>,
+    before: Vec<u8>,
 }
 
 // The number that C gets for an answer.
@@ -25,14 +29,22 @@ fn number_of(refusal: &str, answer: &str) -> u32 {
     }
 }
 
-fn vector(columns: &[String]) -> Vector {
+// Only a list that is found can be struck.
+fn struck(table: &[u8], number: u32, before: &[u8]) -> Vec<u8> {
+    if number == 0 { striking::strike_packed(table, before) } else { vec![] }
+}
+
+fn vector(columns: &[String], unstruck: bool) -> Vector {
+    let (table, number) = (vectors::bytes(&columns[0]), number_of(&columns[1], &columns[4]));
+    let before = vectors::bytes(&columns[if unstruck { 6 } else { 7 }]);
     Vector {
-        table: vectors::bytes(&columns[0]),
-        number: number_of(&columns[1], &columns[4]),
+        number,
         variables: columns[2].parse().unwrap_or(0),
         cap: columns[3].parse().unwrap_or(0),
         choices: columns[5].parse().unwrap_or(0),
-        list: vectors::bytes(&columns[6]),
+        list: if unstruck { struck(&table, number, &before) } else { vectors::bytes(&columns[6]) },
+        before,
+        table,
     }
 }
 
@@ -103,26 +115,34 @@ fn refused_agrees(v: &Vector) -> bool {
     [0, u64::MAX].iter().all(|&cap| agrees(v, cap, none, v.number) && agrees(v, cap, some, v.number))
 }
 
-// The judge accepts what is found.
+// The judge accepts what is written.
 fn judge_agrees(v: &Vector) -> bool {
     v.number != 0 || fitter::judge(&v.table, &v.list) == 0
 }
 
+fn striking_agrees(v: &Vector) -> bool {
+    struck(&v.table, v.number, &v.before) == v.list
+}
+
 fn plain_agrees(v: &Vector) -> bool {
     let net = clauses::net(&v.table);
-    let wanted = clauses::Answer { number: v.number, choices: v.choices, list: v.list.clone() };
+    let wanted = clauses::Answer { number: v.number, choices: v.choices, list: v.before.clone() };
     net.variables == v.variables && clauses::search(&net, v.cap) == wanted
 }
 
-fn line_agrees(columns: &[String]) -> bool {
-    let v = vector(columns);
+fn line_agrees(columns: &[String], unstruck: bool) -> bool {
+    if columns.len() != if unstruck { 7 } else { 8 } {
+        return false;
+    }
+    let v = vector(columns, unstruck);
     if [0, 14, 15].contains(&v.number) {
-        accepted_agrees(&v) && judge_agrees(&v) && plain_agrees(&v)
+        accepted_agrees(&v) && judge_agrees(&v) && striking_agrees(&v) && plain_agrees(&v)
     } else {
         refused_agrees(&v)
     }
 }
 
 fn main() {
-    vectors::run("repairs", line_agrees)
+    let [unstruck] = vectors::flags(3, ["unstruck"]);
+    vectors::run("repairs", |columns| line_agrees(columns, unstruck))
 }

@@ -9,6 +9,9 @@ pub mod BottomUp
 pub mod Targets
 pub mod Meaning
 pub mod Duals
+pub mod Reached
+pub mod SameMeaning
+pub mod Strike
 pub mod Repair
 pub mod Mistakes
 pub mod OfKind

@@ -6,19 +6,22 @@ use mathlib.Core.Bool.{Bool, true, false, not, _||_, and-false}
 use mathlib.Core.List.{List, [], _∷_}
 use lib.ListN.{length, getD}
 use Rattle.sets.specs.Member.{member}
-use Rattle.table.specs.declared.refusal.Verdict.the-variants.{Accepted}
+use Rattle.table.specs.declared.refusal.Refusal.the-variants.{UnreachedStep}
+use Rattle.table.specs.declared.refusal.Verdict.the-variants.{Refused}
 use Rattle.table.specs.Table.{Table, stateAt, stepAt, nodeAt}
 use Rattle.table.specs.Accept.{all, any, sameStep, nodeFits}
 use Rattle.table.specs.Facts.{Wellformed}
 use Rattle.table.proofs.Bools.{not-so}
+use Rattle.table.proofs.Verdicts.{refused}
 use Rattle.ctl.specs.Meaning.{Formula, ax, Fullpath, Released, UntilAlong, Holds}
 use Rattle.ctl.specs.Rule.{every, bottomUp, rootIndex}
-use Rattle.ctl.specs.Kept.{Initial, Labelled, IsList, Next, Kept, Repair}
-use Rattle.ctl.specs.Levels.{tabulate, nextIn}
+use Rattle.ctl.specs.Kept.{Initial, Labelled, IsList, Next, Kept, Repair, NarrowRepair}
+use Rattle.ctl.specs.Levels.{tabulate, iterate, nextIn, level, levels}
 use Rattle.ctl.specs.Labels.{keptSteps, endsFrom, isKept, labelOf, label, marked}
-use Rattle.ctl.specs.Tests.{isInitialKept, repairTests}
+use Rattle.ctl.specs.Reached.{isInitialKept, reachedSet, strike}
+use Rattle.ctl.specs.Tests.{isRepair, narrowTests}
 use Rattle.ctl.proofs.Meaning.{marked-kept}
-use Rattle.ctl.proofs.Repair.{repair-decided}
+use Rattle.ctl.proofs.Repair.{repair-decided, narrow-decided}
 
 -- ---- release
 
@@ -75,10 +78,20 @@ loops = record {
 abbrev pub both-loops : List ℕ
 both-loops = 1 ∷ 1 ∷ []
 
--- tests 11 to 13 accept the list that keeps both loops
-pub loops-accepted : repairTests loops both-loops ≡ Accepted
+-- tests 11, 12 and 13 pass of the list that keeps both loops
+pub loops-pass : isRepair loops both-loops ≡ true
 unfolding all any tabulate member keptSteps endsFrom bottomUp labelOf label
-loops-accepted = refl
+loops-pass = refl
+
+-- and 16 does not, since no kept step leads from state 0 to state 1
+pub loops-unreached : narrowTests loops both-loops ≡ Refused UnreachedStep
+unfolding all any tabulate iterate nextIn level levels keptSteps endsFrom reachedSet
+loops-unreached = refl
+
+-- striking leaves the loop of the initial state
+pub loops-struck : strike loops both-loops ≡ 1 ∷ 0 ∷ []
+unfolding all any tabulate iterate nextIn level levels keptSteps endsFrom reachedSet strike
+loops-struck = refl
 
 -- the loop at state 1 is kept
 pub loop-kept : Kept loops both-loops 1
@@ -135,9 +148,13 @@ loops-wellformed = record {
     one-node zero h = refl
     one-node (suc i) h = absurd (omega arith)
 
--- a kept loop that no initial state reaches does no harm: both loops are a repair
+both-form : IsList loops both-loops
+both-form = record { size = refl; bits = below-two (λ j. getD both-loops j 0 ≤ 1) (omega arith) (omega arith) }
+
+-- A kept loop that no initial state reaches does no harm in 01's sense: both loops are a repair.
 pub loops-repair : Repair loops both-loops
-loops-repair = repair-decided loops loops-wellformed both-loops form .0 loops-accepted
-  where
-    form : IsList loops both-loops
-    form = record { size = refl; bits = below-two (λ j. getD both-loops j 0 ≤ 1) (omega arith) (omega arith) }
+loops-repair = repair-decided loops loops-wellformed both-loops both-form .0 loops-pass
+
+-- In the narrower sense they are none.
+pub loops-not-narrow : ¬ NarrowRepair loops both-loops
+loops-not-narrow r = refused UnreachedStep (sym loops-unreached ∙ narrow-decided loops loops-wellformed both-loops both-form .1 r)

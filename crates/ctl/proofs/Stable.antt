@@ -118,7 +118,7 @@ stable n F X start size mono (inr rises) = stable-chain n F X start size mono tr
 -- ---- the levels of a fixed-point kind
 
 -- a member of a set of n states is below n
-has-inside : (X : List Bool) (s : ℕ) → has X s ≡ true → s < length X
+pub has-inside : (X : List Bool) (s : ℕ) → has X s ≡ true → s < length X
 has-inside X s e = go (decLt s (length X))
   where
     go : Dec (s < length X) → s < length X

@@ -53,7 +53,8 @@ next-kept-step T list s t h = (stepAt T (h .step), place-kept (T .steps) list (h
 
 -- ---- the next states
 
-ends-step : (xs : List Step) (s : ℕ) {t : ℕ} → List·Memᴰ t (endsFrom xs s) → (x : Step) × List·Memᴰ x xs × (x .from ≡ s) × (x .to ≡ t)
+-- an end of the steps out of s, and the step
+pub ends-step : (xs : List Step) (s : ℕ) {t : ℕ} → List·Memᴰ t (endsFrom xs s) → (x : Step) × List·Memᴰ x xs × (x .from ≡ s) × (x .to ≡ t)
 unfolding endsFrom
 ends-step [] s m = absurd (List·Memᴰ·not-nil m)
 ends-step (x ∷ xs) s m = ⊎-elim
@@ -61,7 +62,7 @@ ends-step (x ∷ xs) s m = ⊎-elim
     (λ m′. let r = ends-step xs s m′ in (r .0, List·Memᴰ·tail (r .1), r .2, r .3))
     (in-cond (eqb (x .from) s) (x .to) (endsFrom xs s) .0 m)
 
-step-ends : (s t : ℕ) {x : Step} {xs : List Step} → List·Memᴰ x xs → x .from ≡ s → x .to ≡ t → List·Memᴰ t (endsFrom xs s)
+pub step-ends : (s t : ℕ) {x : Step} {xs : List Step} → List·Memᴰ x xs → x .from ≡ s → x .to ≡ t → List·Memᴰ t (endsFrom xs s)
 unfolding endsFrom
 step-ends s t (List·Memᴰ·head {x = y} {xs = ys} e) f g =
     in-cond (eqb (y .from) s) (y .to) _ .1 (inl (eq-eqb (y .from) s (cc), cc))

@@ -4,6 +4,7 @@ pub mod Kept
 pub mod Rank
 pub mod Levels
 pub mod Labels
+pub mod Reached
 pub mod Tests
 pub mod Exact
 pub mod Duals

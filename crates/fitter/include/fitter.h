@@ -15,9 +15,10 @@
 extern "C" {
 #endif
 
-/* 0 where a repair is found: `list` has a byte for each step, 1 kept and 0 struck, and of all repairs it ranks first. 14 where there is none.
- * 15 where the search has made `cap` choices and would make another. These three store the choices made, leave the first V entries of `bytes`
- * and `words` 0, and but for the list that is found every other entry as it was. Else 2 to 8 or 10, and nothing is stored.
+/* 0 where a repair is found: `list` has a byte for each step, 1 kept and 0 struck. It is the repair that ranks first of all, with every step
+ * struck besides that leaves a state not reached from a kept initial state by kept steps; fitter_judge accepts it. 14 where there is none. 15
+ * where the search has made `cap` choices and would make another. These three store the choices made, leave the first V entries of `bytes` and
+ * `words` 0, and but for the list that is found every other entry as it was. Else 2 to 8 or 10, and nothing is stored.
  * `list` needs a byte for each step, `bytes` and `words` V entries each. With n states and e steps, V is e + n and, for each node, n (kinds 0 to 5),
  * e + n (6 and 7), n + n (e + 3 n) (8 to 11) or n + n (e + 2 n) (12 to 15): at most 223392. */
 uint32_t fitter_repair(const uint8_t *table, size_t table_len, uint64_t cap,
@@ -26,7 +27,8 @@ uint32_t fitter_repair(const uint8_t *table, size_t table_len, uint64_t cap,
                        uint32_t *words, size_t words_len,
                        uint64_t *choices);
 
-/* 0 where the list is a repair of the table; else 2 to 9, 11, 12 or 13. */
+/* 0 where the list is a repair of the table, and each of its kept steps leaves a state that is reached from a kept initial state by kept
+ * steps; else 2 to 9, 11, 12, 16 or 13, the first that holds in this order. */
 uint32_t fitter_judge(const uint8_t *table, size_t table_len,
                       const uint8_t *list, size_t list_len);
 

@@ -19,10 +19,11 @@ use Rattle.table.proofs.Buffer.{front-written}
 use Rattle.table.proofs.Verdicts.{then-accepted, require-accepted}
 use Rattle.ctl.specs.Labels.{marked}
 use Rattle.ctl.proofs.Tabulate.{take-tabulate}
+use Rattle.ctl.specs.Reached.{strike}
+use Rattle.ctl.proofs.Strike.{strike-length}
 use Rattle.circuit.specs.Variables.{variableFormula}
 use Rattle.search.specs.Search.{Outcome, found, none, spent}
 use Rattle.search.specs.TableSearch.{searchUnder, listOf}
-use Rattle.search.specs.Answer.{listAfter}
 use Rattle.label.specs.declared.analysis.Room.the-variants.{Nodes, States}
 use Rattle.label.specs.declared.holding.Holding.{Holding}
 use Rattle.label.specs.declared.holding.Holding.the-variants.{Count, Refused as HoldingRefused}
@@ -38,10 +39,9 @@ use Rattle.reader.specs.Read.{pack, packed, sheetVerdict, readVerdict, answer, 
 use Rattle.sheet.proofs.Whole.{parse-exact}
 use Rattle.reader.proofs.Outcome.{length-back}
 use Rattle.repair.specs.declared.answer.Answer.{Answer}
-use Rattle.repair.specs.Outcome.{repairVerdict, repairList}
+use Rattle.repair.specs.Outcome.{repairVerdict, writtenAfter, repairList}
 use Rattle.repair.proofs.Answered.{refused-back, found-back, none-back, spent-back, choices-back}
 use Rattle.repair.proofs.Cleared.{cleared-written}
-use Rattle.repair.proofs.Listed.{list-size}
 use Rattle.repair.proofs.Order.{accepted-parts, left}
 use Rattle.fitter.specs.Exports.{holdingCount, readLength, stored, repairChoices}
 use Rattle.fitter.specs.Demand1.{AfterRepair, AfterLabel, AfterHolding, AfterRead, Demand1}
@@ -56,8 +56,8 @@ module _ (table : List ℕ) (cap : ℕ) (list bytes words : List ℕ) where
   outcome = searchUnder (tableOf table) cap
 
   -- where every test passed, the list is what the outcome makes it
-  list-after : verdict ≡ Accepted → (o : Outcome) → outcome ≡ o → repairList table cap list bytes words ≡ listAfter (tableOf table) o list
-  list-after ok o e = λ j. onAccepted (ok j) (listAfter (tableOf table) (e j) list) list
+  list-after : verdict ≡ Accepted → (o : Outcome) → outcome ≡ o → repairList table cap list bytes words ≡ writtenAfter (tableOf table) o list
+  list-after ok o e = λ j. onAccepted (ok j) (writtenAfter (tableOf table) (e j) list) list
 
   after-repair : AfterRepair table cap list bytes words
   after-repair = record {
@@ -72,8 +72,8 @@ module _ (table : List ℕ) (cap : ℕ) (list bytes words : List ℕ) where
         let fits = accepted-parts table list bytes words (b .0) in (
           m,
           b .1 .1,
-          subst (λ (after : List ℕ). Written (listOf (tableOf table) m) list after) (sym (list-after (b .0) (found m c) (b .1 .1)))
-              (front-written (listOf (tableOf table) m) list (length (tableOf table .steps)) (list-size (tableOf table) m) (fits .1)),
+          subst (λ (after : List ℕ). Written (strike (tableOf table) (listOf (tableOf table) m)) list after) (sym (list-after (b .0) (found m c) (b .1 .1)))
+              (front-written (strike (tableOf table) (listOf (tableOf table) m)) list (length (tableOf table .steps)) (strike-length (tableOf table) (listOf (tableOf table) m)) (fits .1)),
         );
     none-list = λ c e. let b = none-back verdict outcome c e in list-after (b .0) (none c) (b .1);
     spent-list = λ c e. let b = spent-back verdict outcome c e in list-after (b .0) (spent c) (b .1);

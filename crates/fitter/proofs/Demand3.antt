@@ -12,20 +12,20 @@ use Rattle.table.specs.Buffer.{onAccepted}
 use Rattle.table.specs.Table.{Table, tableOf}
 use Rattle.table.specs.Facts.{Wellformed}
 use Rattle.table.proofs.Accepted.{accepted}
-use Rattle.ctl.specs.Kept.{Repair}
+use Rattle.ctl.specs.Kept.{Struck, Repair, NarrowRepair}
 use Rattle.ctl.specs.Rank.{First}
+use Rattle.ctl.specs.Reached.{strike}
 use Rattle.ctl.proofs.Repair.{judge-accepts-repairs}
+use Rattle.ctl.proofs.Strike.{strike-length, strike-is-exact, striking-narrows, senses-agree}
 use Rattle.closure.specs.Closure.{Marks}
 use Rattle.search.specs.Search.{Outcome, found, none, spent}
 use Rattle.search.specs.TableSearch.{searchUnder, searchFree, listOf}
 use Rattle.search.specs.Right.{choices, SearchIsRight}
-use Rattle.search.specs.Answer.{listAfter}
 use Rattle.search.proofs.Right.{search-is-right}
 use Rattle.repair.specs.declared.answer.Answer.the-variants.{Found, None, Spent}
-use Rattle.repair.specs.Outcome.{repairVerdict, answerOf, answerAt, repairAnswer, repairList}
+use Rattle.repair.specs.Outcome.{repairVerdict, answerOf, writtenAfter, answerAt, repairAnswer, repairList}
 use Rattle.repair.specs.Answer.{answerChoices}
 use Rattle.repair.proofs.Answered.{found-back, none-back, spent-back, choices-of}
-use Rattle.repair.proofs.Listed.{list-size}
 use Rattle.repair.proofs.Order.{long-enough}
 use Rattle.fitter.specs.Demand3.{LongEnough, Together, Demand3}
 
@@ -58,18 +58,24 @@ module _ (table : List ℕ) (cap : ℕ) (list bytes words : List ℕ) (g : LongE
       go (yes over) = absurd (let s = right .spent-over cap over in let z : _≡_ {A = ℕ} 0 1 = cc in omega arith)
       go (no d) = sym (right .same-within cap (omega (arith, d))) ∙ e
 
-  -- the first e bytes of the list are those that the marks give
-  listed : (m : Marks) (c : ℕ) → searchUnder T cap ≡ found m c → take (length (T .steps)) (repairList table cap list bytes words) ≡ listOf T m
-  listed m c e =
-      (λ j. take (length (T .steps)) (onAccepted (fits j) (listAfter T (e j) list) list))
-      ∙ take-at (listOf T m) (drop (length (T .steps)) list) (length (T .steps)) (list-size T m)
+  -- the first e bytes of the list are those that the marks give, struck
+  written : (m : Marks) (c : ℕ) → searchUnder T cap ≡ found m c → take (length (T .steps)) (repairList table cap list bytes words) ≡ strike T (listOf T m)
+  written m c e =
+      (λ j. take (length (T .steps)) (onAccepted (fits j) (writtenAfter T (e j) list) list))
+      ∙ take-at (strike T (listOf T m)) (drop (length (T .steps)) list) (length (T .steps)) (strike-length T (listOf T m))
 
-  first : (c : ℕ) → repairAnswer table cap list bytes words ≡ Found c
-      → First (Repair T) (take (length (T .steps)) (repairList table cap list bytes words))
-  first c e =
+  -- a list is found: the first of all repairs, and it is written struck
+  found-list : (c : ℕ) → repairAnswer table cap list bytes words ≡ Found c
+      → (before : List ℕ) × First (Repair T) before × (take (length (T .steps)) (repairList table cap list bytes words) ≡ strike T before)
+  found-list c e =
       let b = found-back (repairVerdict table list bytes words) (searchUnder T cap) c e in
       let m = b .1 .0 in
-      subst (λ (l : List ℕ). First (Repair T) l) (sym (listed m c (b .1 .1))) (right .found-first m c (found-free m c (b .1 .1)))
+      (listOf T m, right .found-first m c (found-free m c (b .1 .1)), written m c (b .1 .1))
+
+  narrow : (c : ℕ) → repairAnswer table cap list bytes words ≡ Found c → NarrowRepair T (take (length (T .steps)) (repairList table cap list bytes words))
+  narrow c e =
+      let f = found-list c e in
+      subst (λ (l : List ℕ). NarrowRepair T l) (sym (f .2)) (striking-narrows T wf (f .0) (f .1 .member))
 
   spent-exact : ((c : ℕ) × (repairAnswer table cap list bytes words ≡ Spent c)) ↔ (cap < choices (searchFree T))
   spent-exact = (λ r. go (r .0) (r .1) (decLt cap (choices (searchFree T))), λ h. (cap, answered (spent cap) (right .spent-over cap h)))
@@ -87,7 +93,7 @@ module _ (table : List ℕ) (cap : ℕ) (list bytes words : List ℕ) (g : LongE
     )
 
     found-else : ((c : ℕ) × (repairAnswer table cap list bytes words ≡ Found c)) ↔ ((l : List ℕ) × Repair T l)
-    found-else = (λ r. (_, first (r .0) (r .1) .member), λ r. go (r .0) (r .1) (searchFree T) refl)
+    found-else = (λ r. let f = found-list (r .0) (r .1) in (f .0, f .1 .member), λ r. go (r .0) (r .1) (searchFree T) refl)
       where
         go : (l : List ℕ) → Repair T l → (o : Outcome) → searchFree T ≡ o → (c : ℕ) × (repairAnswer table cap list bytes words ≡ Found c)
         go l repair (found m c) e = (c, answered (found m c) (within h _ e))
@@ -98,9 +104,11 @@ module _ (table : List ℕ) (cap : ℕ) (list bytes words : List ℕ) (g : LongE
   together judged = record {
     spent-exact = spent-exact;
     none-exact = none-exact;
+    senses-agree = senses-agree T wf;
     found-else = found-else;
-    found-first = first;
-    found-judged = λ c e. judge-accepts-repairs table _ wf (g .accepted) .1 (first c e .member);
+    found-first = λ c e. let f = found-list c e in (f .0, f .1, subst (λ (l : List ℕ). Struck T (f .0) l) (sym (f .2)) (strike-is-exact T wf (f .0)));
+    found-narrow = narrow;
+    found-judged = λ c e. judge-accepts-repairs table _ wf (g .accepted) .1 (narrow c e);
     carries = ap answerChoices (answered (searchUnder T cap) refl) ∙ choices-of (searchUnder T cap);
     judge-exact = judge-accepts-repairs table judged wf (g .accepted);
   }

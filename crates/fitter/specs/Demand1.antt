@@ -19,6 +19,7 @@ use Rattle.table.specs.Accept.{initialAt}
 use Rattle.ctl.specs.Rule.{rootIndex}
 use Rattle.ctl.specs.Levels.{tabulate}
 use Rattle.ctl.specs.Labels.{marked}
+use Rattle.ctl.specs.Reached.{strike}
 use Rattle.circuit.specs.Variables.{variableFormula}
 use Rattle.closure.specs.Closure.{Marks}
 use Rattle.search.specs.Search.{found}
@@ -45,9 +46,9 @@ pub record AfterRepair (table : List ℕ) (cap : ℕ) (list bytes words : List �
       × (repairBytes table cap list bytes words ≡ bytes)
       × (repairWords table cap list bytes words ≡ words)
       × ((before : ℕ) → repairChoices (repairAnswer table cap list bytes words) before ≡ before)
-  -- "Found writes the first e list bytes. The rest stays."
+  -- "Found writes the first e list bytes. The rest stays." What it writes is, by 02's A3, what the search finds, struck.
   pub found-list : (c : ℕ) → repairAnswer table cap list bytes words ≡ Found c
-      → (m : Marks) × (searchUnder (tableOf table) cap ≡ found m c) × Written (listOf (tableOf table) m) list (repairList table cap list bytes words)
+      → (m : Marks) × (searchUnder (tableOf table) cap ≡ found m c) × Written (strike (tableOf table) (listOf (tableOf table) m)) list (repairList table cap list bytes words)
   -- "None and spent (14, 15) touch only work buffers."
   pub none-list : (c : ℕ) → repairAnswer table cap list bytes words ≡ None c → repairList table cap list bytes words ≡ list
   pub spent-list : (c : ℕ) → repairAnswer table cap list bytes words ≡ Spent c → repairList table cap list bytes words ≡ list

@@ -1,5 +1,5 @@
 -- Demand 3, repairer and judge. "They share the table and a list of kept steps, no more": crates.txt shows it, since the judge's crates and the repairer's
--- have only the table and its meaning (table, ctl, sets) in common.
+-- have only the table, its tests and its meaning (table, accept, ctl, sets) in common. Which states are reached each works out by its own code.
 --
 -- `repairAnswer`, `repairList` and `judgeVerdict` are what the contracts of `fitter_repair` and `fitter_judge` equate their results with.
 use Prim.Native.Nat.{ℕ, _≤_, _<_}
@@ -11,7 +11,7 @@ use lib.ListN.{length, take}
 use Rattle.table.specs.declared.refusal.Verdict.the-variants.{Accepted}
 use Rattle.table.specs.Table.{tableOf}
 use Rattle.table.specs.Accept.{tableVerdict}
-use Rattle.ctl.specs.Kept.{Repair}
+use Rattle.ctl.specs.Kept.{Struck, Repair, NarrowRepair}
 use Rattle.ctl.specs.Rank.{First}
 use Rattle.ctl.specs.Tests.{judgeVerdict}
 use Rattle.circuit.specs.Variables.{variableFormula}
@@ -29,26 +29,35 @@ pub record LongEnough (table list bytes words : List ℕ) : Type 0 where
   pub bytes-long : variableFormula (tableOf table) ≤ length bytes
   pub words-long : variableFormula (tableOf table) ≤ length words
 
--- "A repair is a list that is total, keeps an initial state and has the rule at every kept initial state under path meaning": `Repair`
+-- "A repair is a list that is total, keeps an initial state and has the rule at every kept initial state under path meaning": `Repair`. 02's A3 has a
+-- narrower sense besides: `NarrowRepair`. None and rank are promised of the first, the written list and the judge of the second.
 pub record Together (table : List ℕ) (cap : ℕ) (list bytes words judged : List ℕ) : Type 0 where
   -- "The repairer answers "spent" exactly when 01's search, uncapped, makes more choices than the cap."
   pub spent-exact : ((c : ℕ) × (repairAnswer table cap list bytes words ≡ Spent c)) ↔ (cap < choices (searchFree (tableOf table)))
   -- "Otherwise it answers "none" exactly when no list is a repair,"
   pub none-exact : choices (searchFree (tableOf table)) ≤ cap
       → ((c : ℕ) × (repairAnswer table cap list bytes words ≡ None c)) ↔ ((l : List ℕ) → ¬ Repair (tableOf table) l)
+  -- in the one sense as in the other: a repair, struck, is one in the narrower sense, and such a one is a repair
+  pub senses-agree : ((l : List ℕ) → ¬ Repair (tableOf table) l) ↔ ((l : List ℕ) → ¬ NarrowRepair (tableOf table) l)
   -- "and else "found"."
   pub found-else : choices (searchFree (tableOf table)) ≤ cap
       → ((c : ℕ) × (repairAnswer table cap list bytes words ≡ Found c)) ↔ ((l : List ℕ) × Repair (tableOf table) l)
-  -- "The found list is a repair, first in rank: every other repair ranks after it."
+  -- A3: "Its list before striking is the one that ranks first of all repairs in 01's sense", and every other ranks after it; that list, struck, is the
+  -- one written,
   pub found-first : (c : ℕ) → repairAnswer table cap list bytes words ≡ Found c
-      → First (Repair (tableOf table)) (take (length (tableOf table .steps)) (repairList table cap list bytes words))
-  -- "The judge accepts it."
+      → (before : List ℕ)
+      × First (Repair (tableOf table)) before
+      × Struck (tableOf table) before (take (length (tableOf table .steps)) (repairList table cap list bytes words))
+  -- "the written one is a repair in the narrower sense,"
+  pub found-narrow : (c : ℕ) → repairAnswer table cap list bytes words ≡ Found c
+      → NarrowRepair (tableOf table) (take (length (tableOf table .steps)) (repairList table cap list bytes words))
+  -- "and the judge accepts it."
   pub found-judged : (c : ℕ) → repairAnswer table cap list bytes words ≡ Found c
       → judgeVerdict table (take (length (tableOf table .steps)) (repairList table cap list bytes words)) ≡ Accepted
   -- "Each of the three answers carries the choices that 01's search makes under the cap."
   pub carries : answerChoices (repairAnswer table cap list bytes words) ≡ some (choices (searchUnder (tableOf table) cap))
-  -- "The judge accepts a list exactly when it is a repair, whoever made it."
-  pub judge-exact : (judgeVerdict table judged ≡ Accepted) ↔ Repair (tableOf table) judged
+  -- A3: "The judge accepts a list exactly when it is a repair in this narrower sense", "whoever made it".
+  pub judge-exact : (judgeVerdict table judged ≡ Accepted) ↔ NarrowRepair (tableOf table) judged
 
 -- "What follows holds together, for every accepted table, every cap, long enough buffers and whatever bytes are handed to the judge as a list."
 abbrev pub Demand3 : Type 0

@@ -52,7 +52,7 @@ pub extern "C" fn fitter_repair(
     store_answer(repair::repair(table, cap, list, bytes, words), choices)
 }
 
-// 0 where the list is a repair of the table, else the refusal's number.
+// 0 where the list is a repair of the table in the narrower sense, else the refusal's number.
 #[no_mangle]
 pub extern "C" fn fitter_judge(table: &[u8], list: &[u8]) -> u32
     ensures { λ r. ⌜ r ≡ verdictNumber (judgeVerdict (now (table .entry)) (now (list .entry))) ⌝ }

@@ -7,10 +7,11 @@ use Rattle.table.specs.declared.refusal.Verdict.{Verdict}
 use Rattle.table.specs.declared.refusal.Verdict.the-variants.{Accepted, Refused}
 use Rattle.table.specs.Table.{Table, tableOf}
 use Rattle.table.specs.Accept.{initialAt}
+use Rattle.table.specs.Rows.{targetSets}
 use Rattle.table.specs.Facts.{Packed}
 use Rattle.table.proofs.Accepted.{accepted}
 use Rattle.ctl.specs.Rule.{rootIndex}
-use Rattle.ctl.specs.Labels.{isKept, marked}
+use Rattle.ctl.specs.Labels.{keptSteps, isKept, marked}
 use Rattle.label.specs.declared.analysis.Room.{Room}
 use Rattle.label.specs.declared.analysis.Analysis.{Analysis}
 use Rattle.label.specs.Analysis.{analysisVerdict, analysisAt, analysisOf, labelWords}
@@ -34,6 +35,9 @@ module _ (room : Room) (table list : List ℕ) (a : Analysis) (e : a ≡ analysi
     -- the analysis is that of an accepted list
     whole : a ≡ analysisAt Accepted (tableOf table) list
     whole = e ∙ ap (λ (v : Verdict). analysisAt v (tableOf table) list) passed
+
+    pub rows-are : a .rows ≡ targetSets (keptSteps (tableOf table .steps) list)
+    rows-are = ap (λ (x : Analysis). x .rows) whole
 
     pub initial-is : a .initial ≡ setOf 32 (initialAt (tableOf table))
     initial-is = ap (λ (x : Analysis). x .initial) whole

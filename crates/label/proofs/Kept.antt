@@ -46,13 +46,13 @@ module _ {T : Table} {list rows : List ℕ} (k : KeptRows T list rows) where
 -- ---- whether the list is total
 
 -- `a && not b` is false: b is true where a is
-implied : (a b : Bool) → (a && not b ≡ false) ↔ (a ≡ true → b ≡ true)
+pub implied : (a b : Bool) → (a && not b ≡ false) ↔ (a ≡ true → b ≡ true)
 implied true true = (λ e h. refl, λ f. refl)
 implied true false = (λ e h. sym e, λ f. sym (f refl))
 implied false b = (λ e h. absurd (false≢true h), λ f. refl)
 
 -- a set that is tested to be 0 has no member, and back
-none-found : (f : ℕ → Bool) → (eqb (setOf 32 f) 0 ≡ true) ↔ ((t : ℕ) → t < 32 → f t ≡ false)
+pub none-found : (f : ℕ → Bool) → (eqb (setOf 32 f) 0 ≡ true) ↔ ((t : ℕ) → t < 32 → f t ≡ false)
 none-found f = (
   λ e t h. sym (member-setOf-below 32 f t h) ∙ ap (λ (m : ℕ). member m t) (eqb-true (setOf 32 f) 0 e) ∙ member-zero t,
   λ none. eq-eqb (setOf 32 f) 0 (empty 32 (setOf 32 f) (setOf-lt 32 f) (λ t h. member-setOf-below 32 f t h ∙ none t h)),

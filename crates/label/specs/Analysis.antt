@@ -11,9 +11,10 @@ use Rattle.table.specs.declared.refusal.Verdict.the-variants.{Accepted, Refused
 use Rattle.table.specs.Verdict.{require, _then_}
 use Rattle.table.specs.Table.{Table, tableOf}
 use Rattle.table.specs.Accept.{initialAt, tableVerdict, listVerdict}
+use Rattle.table.specs.Rows.{targetSets}
 use Rattle.ctl.specs.Rule.{rootIndex}
 use Rattle.ctl.specs.Levels.{tabulate}
-use Rattle.ctl.specs.Labels.{isKept, marked}
+use Rattle.ctl.specs.Labels.{keptSteps, isKept, marked}
 use Rattle.ctl.specs.Tests.{isTotal}
 use Rattle.label.specs.declared.analysis.Room.{Room}
 use Rattle.label.specs.declared.analysis.Room.the-variants.{Any, Nodes, States}
@@ -42,12 +43,13 @@ labelWords T list = tabulate 32 (λ i. setOf 32 (marked T list i))
 
 -- a refusal comes with no sets
 abbrev pub nothing : Verdict → Analysis
-nothing v = record { verdict = v; initial = 0; kept = 0; root = 0; words = replicate 32 0 }
+nothing v = record { verdict = v; rows = replicate 32 0; initial = 0; kept = 0; root = 0; words = replicate 32 0 }
 
--- where accepted, the initial states, the kept states, the root's set and all nodes' sets; else nothing
+-- where accepted, the kept next states of each state, the initial states, the kept states, the root's set and all nodes' sets; else nothing
 abbrev pub analysisAt : Verdict → Table → List ℕ → Analysis
 analysisAt Accepted T list = record {
   verdict = Accepted;
+  rows = targetSets (keptSteps (T .steps) list);
   initial = setOf 32 (initialAt T);
   kept = setOf 32 (isKept T list);
   root = setOf 32 (marked T list (rootIndex T));

@@ -23,9 +23,10 @@ pub enum Room {
     States(usize),
 }
 
-// The verdict and, where it accepts, the initial states, the kept states, the root's set and the set of each node.
+// The verdict and, where it accepts, the kept next states of each state, the initial states, the kept states, the root's set and the set of each node.
 pub struct Analysis {
     pub verdict: Verdict,
+    pub rows: [u32; 32],
     pub initial: u32,
     pub kept: u32,
     pub root: u32,
@@ -37,6 +38,7 @@ fn refused(refusal: Refusal) -> Analysis
 {
     Analysis {
         verdict: Verdict::Refused(refusal),
+        rows: [0; 32],
         initial: 0,
         kept: 0,
         root: 0,
@@ -80,6 +82,7 @@ fn analysed(table: &[u8], list: &[u8], n: usize, f: usize) -> Analysis
     let words = label_pass([0; 32], table, rows, kept);
     Analysis {
         verdict: Verdict::Accepted,
+        rows: rows,
         initial: table::initial_states(table::states_part(table), n),
         kept: kept,
         root: root_set(words, f),

@@ -18,9 +18,8 @@ use Rattle.table.proofs.Bools.{and-parts}
 use Rattle.table.proofs.Verdicts.{then-refused, then-next, then-accepted, require-accepted}
 use Rattle.circuit.specs.Variables.{variableFormula}
 use Rattle.search.specs.TableSearch.{searchUnder}
-use Rattle.search.specs.Answer.{listAfter}
 use Rattle.repair.specs.declared.answer.Answer.{Answer}
-use Rattle.repair.specs.Outcome.{repairVerdict, answerAt, cleared, repairAnswer, repairList, repairBytes, repairWords}
+use Rattle.repair.specs.Outcome.{repairVerdict, answerAt, writtenAfter, cleared, repairAnswer, repairList, repairBytes, repairWords}
 
 module _ (table list bytes words : List ℕ) where
   pub table-refused : (r : Refusal) → tableVerdict table ≡ Refused r → repairVerdict table list bytes words ≡ Refused r
@@ -71,12 +70,12 @@ module _ (table : List ℕ) (cap : ℕ) (list bytes words : List ℕ) where
 
   -- a verdict decides all four: refused, nothing is touched; accepted, the search answers and the work buffers are cleared
   pub left : (v : Verdict) → repairVerdict table list bytes words ≡ v
-      → Left (answerAt v (searchUnder (tableOf table) cap)) (onAccepted v (listAfter (tableOf table) (searchUnder (tableOf table) cap) list) list)
+      → Left (answerAt v (searchUnder (tableOf table) cap)) (onAccepted v (writtenAfter (tableOf table) (searchUnder (tableOf table) cap) list) list)
       (onAccepted v (cleared (variableFormula (tableOf table)) bytes) bytes) (onAccepted v (cleared (variableFormula (tableOf table)) words) words)
   left v h = (
     ap (λ (w : Verdict). answerAt w (searchUnder (tableOf table) cap)) (sym h),
     (
-      ap (λ (w : Verdict). onAccepted w (listAfter (tableOf table) (searchUnder (tableOf table) cap) list) list) (sym h),
+      ap (λ (w : Verdict). onAccepted w (writtenAfter (tableOf table) (searchUnder (tableOf table) cap) list) list) (sym h),
       (
         ap (λ (w : Verdict). onAccepted w (cleared (variableFormula (tableOf table)) bytes) bytes) (sym h),
         ap (λ (w : Verdict). onAccepted w (cleared (variableFormula (tableOf table)) words) words) (sym h),

@@ -1,2 +1,3 @@
 pub mod Answer
+pub mod Round
 pub mod Outcome

@@ -1,9 +1,9 @@
 -- 01, "Calls", 1: what Repair answers, and what each of its three buffers holds afterwards, for all inputs.
 use Prim.Native.Nat.{ℕ}
 use mathlib.Core.Bool.{Bool, _&&_}
-use mathlib.Core.List.{List}
+use mathlib.Core.List.{List, _++_}
 use lib.Dec.{leb}
-use lib.ListN.{length, replicate}
+use lib.ListN.{length, drop, replicate}
 use Rattle.table.specs.declared.refusal.Refusal.the-variants.{ShortBuffer}
 use Rattle.table.specs.declared.refusal.Verdict.{Verdict}
 use Rattle.table.specs.declared.refusal.Verdict.the-variants.{Accepted, Refused}
@@ -11,12 +11,13 @@ use Rattle.table.specs.Verdict.{require, _then_}
 use Rattle.table.specs.Buffer.{onAccepted, over}
 use Rattle.table.specs.Table.{Table, tableOf}
 use Rattle.table.specs.Accept.{tableVerdict}
+use Rattle.ctl.specs.Reached.{strike}
 use Rattle.circuit.specs.Variables.{variableFormula}
 use Rattle.search.specs.declared.outcome.Outcome as Code
 use Rattle.search.specs.declared.outcome.Outcome.the-variants as code
-use Rattle.search.specs.Search.{Outcome}
-use Rattle.search.specs.TableSearch.{searchUnder}
-use Rattle.search.specs.Answer.{outcomeOf, listAfter}
+use Rattle.search.specs.Search.{Outcome, found, none, spent}
+use Rattle.search.specs.TableSearch.{searchUnder, listOf}
+use Rattle.search.specs.Answer.{outcomeOf}
 use Rattle.repair.specs.declared.answer.Answer.{Answer}
 use Rattle.repair.specs.declared.answer.Answer.the-variants.{Found, None, Spent, Refused as AnswerRefused}
 
@@ -40,6 +41,12 @@ carried (code.Spent c) = Spent c
 abbrev pub answerOf : Outcome → Answer
 answerOf outcome = carried (outcomeOf outcome)
 
+-- The lent list afterwards: found writes a byte for each step, and the rest stays. 02, A3: what is written is what the search finds, struck.
+abbrev pub writtenAfter : Table → Outcome → List ℕ → List ℕ
+writtenAfter T (found m c) list = strike T (listOf T m) ++ drop (length (T .steps)) list
+writtenAfter T (none c) list = list
+writtenAfter T (spent c) list = list
+
 -- refused where a test refuses, else that
 abbrev pub answerAt : Verdict → Outcome → Answer
 answerAt Accepted outcome = answerOf outcome
@@ -56,7 +63,7 @@ module _ (table : List ℕ) (cap : ℕ) (list bytes words : List ℕ) where
 
   -- found writes the first e bytes of the list; none, spent and a refusal leave it
   abbrev pub repairList : List ℕ
-  repairList = onAccepted (repairVerdict table list bytes words) (listAfter (tableOf table) (searchUnder (tableOf table) cap) list) list
+  repairList = onAccepted (repairVerdict table list bytes words) (writtenAfter (tableOf table) (searchUnder (tableOf table) cap) list) list
 
   -- found, none and spent leave the first V entries of both work buffers 0; a refusal leaves them
   abbrev pub repairBytes : List ℕ

@@ -1,8 +1,10 @@
-// Repair: the first repair of a table, searched for under a cap, in buffers that the caller lends.
+// Repair: the first repair of a table, searched for under a cap and struck, in buffers that the caller lends.
 mod answer;
 mod clear;
 mod net;
+mod reached;
 mod run;
+mod strike;
 
 use clear::clear_bytes;
 use clear::clear_words;

@@ -1,6 +1,7 @@
-// The search of an accepted table, in buffers that are long enough.
+// The search of an accepted table, in buffers that are long enough, and the striking of what it finds.
 use crate::answer::Answer;
 use crate::net::net_of;
+use crate::strike::strike_unreached;
 use search::Outcome;
 ghost use mathlib.Core.Path.{_≡_};
 ghost use Prim.Native.Nat.{_≤_};
@@ -10,8 +11,7 @@ ghost use Rattle.table.specs.Table.{tableOf};
 ghost use Rattle.table.specs.Accept.{tableVerdict};
 ghost use Rattle.circuit.specs.Variables.{variableFormula};
 ghost use Rattle.search.specs.TableSearch.{searchUnder};
-ghost use Rattle.search.specs.Answer.{listAfter};
-ghost use Rattle.repair.specs.Outcome.{answerOf};
+ghost use Rattle.repair.specs.Outcome.{answerOf, writtenAfter};
 
 // What the search is told beside the bytes is worked out once. It uses no words past the first V.
 pub fn run(table: &[u8], cap: u64, list: &mut [u8], words: &mut [u32]) -> Answer
@@ -19,7 +19,7 @@ pub fn run(table: &[u8], cap: u64, list: &mut [u8], words: &mut [u32]) -> Answer
     requires { ⌜ length (tableOf (now table) .steps) ≤ length (now list) ⌝ }
     requires { ⌜ variableFormula (tableOf (now table)) ≤ length (now words) ⌝ }
     ensures { λ r. ⌜ r ≡ answerOf (searchUnder (tableOf (now (table .entry))) cap) ⌝ }
-    ensures { λ _. ⌜ now (list .exit) ≡ listAfter (tableOf (now (table .entry))) (searchUnder (tableOf (now (table .entry))) cap) (now (list .entry)) ⌝ }
+    ensures { λ _. ⌜ now (list .exit) ≡ writtenAfter (tableOf (now (table .entry))) (searchUnder (tableOf (now (table .entry))) cap) (now (list .entry)) ⌝ }
     ensures { λ _. ⌜ drop (variableFormula (tableOf (now (table .entry)))) (now (words .exit)) ≡ drop (variableFormula (tableOf (now (table .entry)))) (now (words .entry)) ⌝ }
 {
     let net = net_of(table);
@@ -28,7 +28,12 @@ pub fn run(table: &[u8], cap: u64, list: &mut [u8], words: &mut [u32]) -> Answer
     let bases = b.at;
     let levels = b.total;
     match search::search_table(table, net, &targets, &bases, levels, cap, list, words) {
-        Outcome::Found(c) => Answer::Found(c),
+        Outcome::Found(c) => {
+            let counts = table::counts_of(table);
+            let e = counts.steps;
+            strike_unreached(table, net, &mut list[..e]);
+            Answer::Found(c)
+        }
         Outcome::None(c) => Answer::None(c),
         Outcome::Spent(c) => Answer::Spent(c),
     }

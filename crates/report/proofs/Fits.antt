@@ -66,7 +66,7 @@ lines-length n h (x ∷ steps) (kept ∷ list) fit bits =
 
 -- ---- Repair's answer
 
-refusal-few : (r : Refusal) → refusalNumber r ≤ 13
+refusal-few : (r : Refusal) → refusalNumber r ≤ 16
 refusal-few refusal.SheetForm = omega arith
 refusal-few refusal.Length = omega arith
 refusal-few refusal.Counts = omega arith
@@ -80,6 +80,7 @@ refusal-few refusal.ShortBuffer = omega arith
 refusal-few refusal.NotTotal = omega arith
 refusal-few refusal.NoInitialKept = omega arith
 refusal-few refusal.RootFails = omega arith
+refusal-few refusal.UnreachedStep = omega arith
 
 refused-length : (r : Refusal) → length (refused r) ≤ 1066
 refused-length r = omega (arith, one-value (refusalNumber r), two-digits (refusalNumber r) (omega (arith, refusal-few r)))

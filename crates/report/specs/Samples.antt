@@ -7,14 +7,14 @@ pub record Sample : Type 0 where
   pub sheet : List ℕ
   pub output : List ℕ
 
--- 01's sheet: found with 4 choices, and the step from 1 to 2 is struck
+-- 01's sheet: found with 4 choices, and the steps from 1 to 2 and from 2, which is not reached without it, are struck
 abbrev pub first : Sample
 first =
     record {
       sheet =
           ascii
           "states edges nodes props\n3 4 5 1\ninitial label\n1 0\n0 1\n0 1\nfrom to\n0 1\n1 0\n1 2\n2 2\nkind a b\n0 0 0\n2 0 0\n9 0 1\n3 2 0\n8 0 3\n";
-      output = ascii "answer choices\nfound 4\nfrom to kept\n0 1 1\n1 0 1\n1 2 0\n2 2 1\n";
+      output = ascii "answer choices\nfound 4\nfrom to kept\n0 1 1\n1 0 1\n1 2 0\n2 2 0\n";
     }
 
 -- one state, step 0 0, rule A[p0 V p1], with labels 1, 2 and 3

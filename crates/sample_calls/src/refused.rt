@@ -1,4 +1,4 @@
-// 1 to 13: the example of each refusal.
+// 1 to 13, and 16: the example of each refusal.
 use crate::calls::repair;
 use crate::calls::repair_in;
 use crate::calls::sheet;
@@ -70,4 +70,5 @@ pub fn run_lists() {
     );
     print_judged(&table, b"\x00\x00\x00\x00", b"list 0 0 0 0");
     print_judged(&table, b"\x01\x01\x01\x01", b"list 1 1 1 1");
+    print_judged(&table, b"\x01\x01\x00\x01", b"list 1 1 0 1");
 }

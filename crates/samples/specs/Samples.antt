@@ -1,18 +1,19 @@
--- 01, "Sample tables": the cases marked *, each with its answer.
+-- 01, "Sample tables": the cases marked *, each with its answer, as 02's A3 has it.
 use Prim.Native.Nat.{ℕ}
 use mathlib.Core.Bool.{Bool, false, _&&_}
 use mathlib.Core.List.{List, [], _∷_, _++_}
 use lib.Dec.{eqb}
 use Rattle.table.specs.Verdict.{verdictNumber}
 use Rattle.table.specs.Table.{Table, tableOf}
+use Rattle.ctl.specs.Reached.{strike}
 use Rattle.ctl.specs.Tests.{judgeVerdict}
 use Rattle.search.specs.Search.{Outcome, found, none, spent}
 use Rattle.closure.specs.Numbered.{sameCode}
 use Rattle.search.specs.TableSearch.{searchUnder, listOf}
 
--- what the search answers, with its choices
+-- what the search answers, with its choices; what it finds is given before striking and struck
 pub data Answer : Type 0 where
-  finds : List ℕ → ℕ → Answer
+  finds : List ℕ → List ℕ → ℕ → Answer
   finds-none spends : ℕ → Answer
 
 -- a table searched under a cap, or a list judged
@@ -21,9 +22,9 @@ pub data Case : Type 0 where
   judged : List ℕ → List ℕ → ℕ → Case
 
 unfoldable pub answers : Table → Answer → Outcome → Bool
-answers T (finds list c) (found m k) = sameCode (listOf T m) list && eqb k c
-answers T (finds list c) (none k) = false
-answers T (finds list c) (spent k) = false
+answers T (finds before list c) (found m k) = sameCode (listOf T m) before && sameCode (strike T before) list && eqb k c
+answers T (finds before list c) (none k) = false
+answers T (finds before list c) (spent k) = false
 answers T (finds-none c) (found m k) = false
 answers T (finds-none c) (none k) = eqb k c
 answers T (finds-none c) (spent k) = false
@@ -57,17 +58,17 @@ dead-end = (2 ∷ 1 ∷ 1 ∷ 0 ∷ []) ++ (1 ∷ 0 ∷ 0 ∷ 0 ∷ 0 ∷ 0 ∷ 
 
 abbrev pub cases : List Case
 cases =
-    searched sheet 1000000 (finds (1 ∷ 1 ∷ 0 ∷ 1 ∷ []) 4)
-    ∷ searched sheet 4 (finds (1 ∷ 1 ∷ 0 ∷ 1 ∷ []) 4)
+    searched sheet 1000000 (finds (1 ∷ 1 ∷ 0 ∷ 1 ∷ []) (1 ∷ 1 ∷ 0 ∷ 0 ∷ []) 4)
+    ∷ searched sheet 4 (finds (1 ∷ 1 ∷ 0 ∷ 1 ∷ []) (1 ∷ 1 ∷ 0 ∷ 0 ∷ []) 4)
     ∷ searched sheet 3 (spends 3)
-    ∷ judged sheet (1 ∷ 1 ∷ 0 ∷ 1 ∷ []) 0
+    ∷ judged sheet (1 ∷ 1 ∷ 0 ∷ 1 ∷ []) 16
     ∷ judged sheet (1 ∷ 1 ∷ 0 ∷ 0 ∷ []) 0
     ∷ judged sheet (1 ∷ 1 ∷ 1 ∷ 1 ∷ []) 13
     ∷ judged sheet (1 ∷ 1 ∷ 1 ∷ 0 ∷ []) 11
     ∷ judged sheet (0 ∷ 0 ∷ 0 ∷ 1 ∷ []) 12
     ∷ searched (loop 1) 1000000 (finds-none 0)
-    ∷ searched (loop 2) 1000000 (finds (1 ∷ []) 0)
-    ∷ searched (loop 3) 1000000 (finds (1 ∷ []) 0)
-    ∷ searched two-loops 1000000 (finds (1 ∷ 0 ∷ []) 0)
+    ∷ searched (loop 2) 1000000 (finds (1 ∷ []) (1 ∷ []) 0)
+    ∷ searched (loop 3) 1000000 (finds (1 ∷ []) (1 ∷ []) 0)
+    ∷ searched two-loops 1000000 (finds (1 ∷ 0 ∷ []) (1 ∷ 0 ∷ []) 0)
     ∷ searched dead-end 1000000 (finds-none 0)
     ∷ []

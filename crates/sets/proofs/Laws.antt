@@ -1,8 +1,9 @@
 -- The members of sets that are numbers: of the operations on bits, of powers of two, and two sets with the same members.
 use mathlib.Core.Path.{_≡_, refl, sym, ap, ap₂, _∙_}
-use mathlib.Core.Bool.{Bool, true, false, cond, not, _&&_, _||_, and-true}
+use mathlib.Core.Bool.{Bool, true, false, cond, not, _&&_, _||_, and-true, false≢true}
 use Prim.Native.Nat.{ℕ, zero, suc, _+_, _-_, _*_, _/_, _%_, _^_, _≤_, _<_}
 use native.Mathlib.Nat.{div-one, zero-div, pow-suc, pow-succ', div-div-eq-div-mul, div-eq-of-lt, mod-lt, lt-of-lt-of-le, zero-lt-suc}
+use native.Mathlib.Decide.{decLt}
 use native.Mathlib.Omega.{arith}
 use borrow.Author.Tests.{eq-eqb, ne-eqb, eqb-true, eqb-false}
 use lib.Dec.{eqb, ltb, eqb·zero-suc, eqb·suc-zero, eqb·suc-suc, leb·zero, leb·suc-zero, leb·suc-suc}
@@ -82,6 +83,14 @@ member-power (suc t) (suc s) =
 pub member-past : (w m s : ℕ) → m < 2 ^ w → w ≤ s → member m s ≡ false
 unfolding member
 member-past w m s h l = ap (λ (x : ℕ). eqb (x % 2) 1) (div-eq-of-lt (lt-of-lt-of-le h (pow-mono l)))
+
+-- so its members are below w
+pub member-inside : (w m s : ℕ) → m < 2 ^ w → member m s ≡ true → s < w
+member-inside w m s h e = go (decLt s w)
+  where
+    go : Dec (s < w) → s < w
+    go (yes l) = l
+    go (no d) = absurd (false≢true (sym (member-past w m s h (omega (arith, d))) ∙ e))
 
 -- the half of a set of w + 1 states is one of w states
 pub half-lt : (w m : ℕ) → m < 2 ^ suc w → m / 2 < 2 ^ w

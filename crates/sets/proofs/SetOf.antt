@@ -1,10 +1,12 @@
 -- The set of the states that have a property, how many there are, and the lowest of them.
 use mathlib.Core.Path.{_≡_, refl, sym, ap, ap₂, _∙_}
-use mathlib.Core.Bool.{Bool, true, false, cond, _&&_, false≢true}
+use mathlib.Core.Bool.{Bool, true, false, cond, _&&_, false≢true, and-eq-true-iff}
+use mathlib.Core.Logic.{_↔_}
 use Prim.Native.Nat.{ℕ, zero, suc, _+_, _*_, _/_, _%_, _^_, _≤_, _<_, zero-le}
 use native.Mathlib.Nat.{pow-suc, mod-lt, zero-lt-suc, not-suc-le-zero, le-of-suc-le-suc, lt-of-not-le}
+use native.Mathlib.Decide.{ℕ-discrete}
 use native.Mathlib.Omega.{arith}
-use borrow.Author.Tests.{lt-ltb}
+use borrow.Author.Tests.{lt-ltb, ltb-true}
 use lib.Dec.{eqb, ltb, leb·zero, leb·suc-zero, leb·suc-suc}
 use lib.Count.{ones, ones-step, under, trailingZeros}
 use Rattle.sets.specs.Member.{member, setOf, countOf, lowestOf}
@@ -53,6 +55,13 @@ member-setOf (suc n) f (suc s) =
 pub member-setOf-below : (n : ℕ) (f : ℕ → Bool) (s : ℕ) → s < n → member (setOf n f) s ≡ f s
 member-setOf-below n f s h = member-setOf n f s ∙ ap (λ (b : Bool). b && f s) (lt-ltb s n h)
 
+-- the members, and no other state
+pub in-set : (n : ℕ) (f : ℕ → Bool) (s : ℕ) → (member (setOf n f) s ≡ true) ↔ ((s < n) × (f s ≡ true))
+in-set n f s = (
+  λ e. let r = and-eq-true-iff (ltb s n) (f s) .0 (sym (member-setOf n f s) ∙ e) in (ltb-true s n (r .0), r .1),
+  λ r. member-setOf-below n f s (r .0) ∙ r .1,
+)
+
 -- properties that agree below n have the same set
 pub setOf-cong : (n : ℕ) (f g : ℕ → Bool) → ((s : ℕ) → s < n → f s ≡ g s) → setOf n f ≡ setOf n g
 unfolding setOf
@@ -86,6 +95,30 @@ unfolding countOf
 countOf-cong zero f g same = refl
 countOf-cong (suc n) f g same =
     ap₂ (λ (x : ℕ) (b : Bool). x + cond b 1 0) (countOf-cong n f g (λ s h. same s (omega arith))) (same n (omega arith))
+
+one-le : (a b : Bool) → (a ≡ true → b ≡ true) → cond a 1 0 ≤ cond b 1 0
+one-le true true h = omega arith
+one-le true false h = absurd (false≢true (h refl))
+one-le false true h = omega arith
+one-le false false h = omega arith
+
+module _ (f g : ℕ → Bool) where
+  count-le : (n : ℕ) → ((i : ℕ) → i < n → g i ≡ true → f i ≡ true) → countOf n g ≤ countOf n f
+  unfolding countOf
+  count-le zero sub = omega arith
+  count-le (suc n) sub =
+      let rest : countOf n g ≤ countOf n f = count-le n (λ i h. sub i (omega arith)) in
+      omega (arith, one-le (g n) (f n) (sub n (omega arith)))
+
+  -- fewer states have g than f, where all that have it have f and one that has f lacks it
+  pub countOf-less : (n : ℕ) → ((i : ℕ) → i < n → g i ≡ true → f i ≡ true) → (j : ℕ) → j < n → f j ≡ true → g j ≡ false → countOf n g < countOf n f
+  unfolding countOf
+  countOf-less zero sub j h yes-f no-g = absurd (omega arith)
+  countOf-less (suc n) sub j h yes-f no-g = go (ℕ-discrete j n) (count-le n (λ i l. sub i (omega arith))) (λ l. countOf-less n (λ i m. sub i (omega arith)) j l yes-f no-g)
+    where
+      go : Dec (j ≡ n) → countOf n g ≤ countOf n f → (j < n → countOf n g < countOf n f) → countOf n g + cond (g n) 1 0 < countOf n f + cond (f n) 1 0
+      go (yes e) rest less = rw (sym (ap f e) ∙ yes-f, sym (ap g e) ∙ no-g) (omega arith)
+      go (no d) rest less = omega (arith, less (omega arith), one-le (g n) (f n) (sub n (omega arith)))
 
 countOf-le : (w : ℕ) (f : ℕ → Bool) → countOf w f ≤ w
 unfolding countOf

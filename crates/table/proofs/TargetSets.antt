@@ -6,7 +6,8 @@ use native.Mathlib.Nat.{not-suc-le-zero, le-of-suc-le-suc}
 use native.Mathlib.Omega.{arith}
 use lib.ListN.{length, getD}
 use lib.Seq.{ext-getD}
-use Rattle.sets.proofs.SetOf.{setOf-unique}
+use Rattle.sets.specs.Member.{member}
+use Rattle.sets.proofs.SetOf.{setOf-lt, setOf-unique, member-setOf-below}
 use Rattle.table.specs.declared.record.Step.{Step}
 use Rattle.table.specs.Rows.{Rows, targetSet, targetsFrom, targetSets}
 
@@ -37,3 +38,12 @@ module _ (xs : List Step) where
   rows-targets rows g = ext-getD 0 rows (targetSets xs) (g .size ∙ sym targets-length) (λ s h.
       let below : s < 32 = omega (arith, g .size) in
       setOf-unique 32 _ (getD rows s 0) (g .words s below) (λ t l. g .bits s t below l) ∙ sym (targets-at s below))
+
+  -- and these sets are the rows of such a table
+  pub targets-rows : Rows (targetSets xs) xs
+  unfolding targetSet
+  targets-rows = record {
+    size = targets-length;
+    words = λ s h. rw (targets-at s h) (setOf-lt 32 _);
+    bits = λ s t h l. ap (λ (m : ℕ). member m t) (targets-at s h) ∙ member-setOf-below 32 _ t l;
+  }

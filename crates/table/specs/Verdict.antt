@@ -2,7 +2,7 @@
 use Prim.Native.Nat.{ℕ}
 use mathlib.Core.Bool.{Bool, true, false}
 use Rattle.table.specs.declared.refusal.Refusal.{Refusal}
-use Rattle.table.specs.declared.refusal.Refusal.the-variants.{SheetForm, Length, Counts, StateRecord, NoInitial, StepEnd, RepeatedStep, NodeRecord, ListForm, ShortBuffer, NotTotal, NoInitialKept, RootFails}
+use Rattle.table.specs.declared.refusal.Refusal.the-variants.{SheetForm, Length, Counts, StateRecord, NoInitial, StepEnd, RepeatedStep, NodeRecord, ListForm, ShortBuffer, NotTotal, NoInitialKept, RootFails, UnreachedStep}
 use Rattle.table.specs.declared.refusal.Verdict.{Verdict}
 use Rattle.table.specs.declared.refusal.Verdict.the-variants.{Accepted, Refused}
 
@@ -20,6 +20,7 @@ refusalNumber ShortBuffer = 10
 refusalNumber NotTotal = 11
 refusalNumber NoInitialKept = 12
 refusalNumber RootFails = 13
+refusalNumber UnreachedStep = 16
 
 abbrev pub verdictNumber : Verdict → ℕ
 verdictNumber Accepted = 0

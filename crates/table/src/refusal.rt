@@ -2,7 +2,7 @@
 ghost use mathlib.Core.Path.{_≡_};
 ghost use Rattle.table.specs.Verdict.{refusalNumber, verdictNumber};
 
-// Why a call refuses its input, in the order of the numbers 1 to 13.
+// Why a call refuses its input, in the order of the numbers: 1 to 13, and 16, since 14 and 15 are Repair's none and spent.
 pub enum Refusal {
     SheetForm,
     Length,
@@ -17,6 +17,7 @@ pub enum Refusal {
     NotTotal,
     NoInitialKept,
     RootFails,
+    UnreachedStep,
 }
 
 // The answer of a test: accepted, or refused and why.
@@ -42,6 +43,7 @@ pub fn refusal_number(refusal: Refusal) -> u32
         Refusal::NotTotal => 11,
         Refusal::NoInitialKept => 12,
         Refusal::RootFails => 13,
+        Refusal::UnreachedStep => 16,
     }
 }
 

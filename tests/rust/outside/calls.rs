@@ -7,9 +7,12 @@ use crate::wanted::{self, Rooms};
 
 pub const NAMES: [&str; 5] = ["repair", "judge", "label", "holding", "read"];
 
+// A call gives 0 to 16.
+pub const NUMBERS: usize = 17;
+
 // How many calls of each kind agreed, by the number they gave.
 pub struct Calls {
-    pub agreed: [[u64; 16]; 5],
+    pub agreed: [[u64; NUMBERS]; 5],
 }
 
 pub fn hex(bytes: &[u8]) -> String {

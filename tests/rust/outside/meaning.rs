@@ -106,29 +106,58 @@ impl Graph {
         }
         sets
     }
+
+    // The kept initial states.
+    fn starts(&self, table: &Table) -> Vec<usize> {
+        (0..self.next.len()).filter(|&s| table.initial[s] && self.keeps(s)).collect()
+    }
+
+    // Whether a path from a start comes to each kept state. It has come to the start that it is from.
+    fn reaches_all(&self, starts: &[usize]) -> bool {
+        let comes_to = |s: usize| starts.iter().any(|&start| self.comes(start, &|t| t == s, &|_| false));
+        (0..self.next.len()).all(|s| !self.keeps(s) || comes_to(s))
+    }
+
+    fn root_holds(&self, table: &Table, starts: &[usize]) -> bool {
+        let sets = self.sets(table);
+        let root = &sets[sets.len() - 1];
+        starts.iter().all(|&s| root[s])
+    }
 }
 
-// 0 where the list is a repair, else 11, 12 or 13.
+// 0 where the list is a repair in A3's narrower sense, else 11, 12, 16 or 13, tested in this order.
 pub fn judge(table: &Table, kept: &[bool]) -> u32 {
     let graph = Graph::new(table, kept);
     if !graph.total() {
         return 11;
     }
-    let initial: Vec<usize> = (0..table.initial.len()).filter(|&s| table.initial[s] && graph.keeps(s)).collect();
-    if initial.is_empty() {
+    let starts = graph.starts(table);
+    if starts.is_empty() {
         return 12;
     }
-    let sets = graph.sets(table);
-    let root = &sets[sets.len() - 1];
-    if initial.iter().all(|&s| root[s]) { 0 } else { 13 }
+    if !graph.reaches_all(&starts) {
+        return 16;
+    }
+    if graph.root_holds(table, &starts) { 0 } else { 13 }
 }
 
-// Of all repairs the one that ranks first, by trying every list from the first in rank to the last.
-pub fn first_repair(table: &Table) -> Option<Vec<u8>> {
+pub fn narrow_repair(table: &Table, kept: &[bool]) -> bool {
+    judge(table, kept) == 0
+}
+
+// Whether the list is a repair in 01's sense: its kept states need not be reachable.
+pub fn repair(table: &Table, kept: &[bool]) -> bool {
+    let graph = Graph::new(table, kept);
+    let starts = graph.starts(table);
+    graph.total() && !starts.is_empty() && graph.root_holds(table, &starts)
+}
+
+// Of all repairs in one of these senses the one that ranks first, by trying every list from the first in rank to the last.
+pub fn first(table: &Table, is_repair: fn(&Table, &[bool]) -> bool) -> Option<Vec<u8>> {
     let e = table.steps.len();
     for number in (0..1usize << e).rev() {
         let kept: Vec<bool> = (0..e).map(|j| number >> (e - 1 - j) & 1 == 1).collect();
-        if judge(table, &kept) == 0 {
+        if is_repair(table, &kept) {
             return Some(kept.iter().map(|&k| k as u8).collect());
         }
     }

@@ -3,6 +3,7 @@ use crate::calls::{hex, Calls};
 use crate::clauses;
 use crate::meaning;
 use crate::random::Random;
+use crate::striking;
 use crate::table::{accept_list, variables, Table};
 use crate::wanted::Rooms;
 
@@ -40,26 +41,40 @@ fn caps(random: &mut Random, answer: &clauses::Answer, limit: u64) -> Vec<u64> {
     vec![random.pick(&enough), random.pick(&few)]
 }
 
-// What the answer without a cap says must be so by the meaning of the rule.
+// The list that the clauses gave is a repair in 01's sense, and struck it is one in the narrower sense.
+fn repairs(table: &Table, before: &[u8]) -> Result<(), String> {
+    let kept = |list: &[u8]| accept_list(table, list).map_err(|_| "the clauses gave no list");
+    if !meaning::repair(table, &kept(before)?) {
+        return Err("the list that the clauses gave is no repair".to_string());
+    }
+    if !meaning::narrow_repair(table, &kept(&striking::strike(&table.initial, &table.steps, before))?) {
+        return Err("the list that the clauses gave is no repair when struck".to_string());
+    }
+    Ok(())
+}
+
+// What the answer without a cap says must be so by the meaning of the rule. There is none exactly where no list is a repair, in either sense; rank
+// is that of the list before striking.
 fn means(table: &Table, answer: &clauses::Answer) -> Result<(), String> {
-    if answer.number == 0 {
-        let kept = accept_list(table, &answer.list).map_err(|_| "the clauses gave no list")?;
-        if meaning::judge(table, &kept) != 0 {
-            return Err("the list that the clauses gave is no repair".to_string());
-        }
+    let found = (answer.number == 0).then_some(&answer.list);
+    if let Some(before) = found {
+        repairs(table, before)?;
     }
     if table.steps.len() <= 10 && answer.number != 15 {
-        let first = meaning::first_repair(table);
-        let found = (answer.number == 0).then(|| answer.list.clone());
-        if first != found {
-            return Err(format!("first in rank {:?}, by the clauses {:?}", first, found));
+        let first = meaning::first(table, meaning::repair);
+        if first.as_ref() != found {
+            return Err(format!("first in rank {first:?}, by the clauses {found:?}"));
+        }
+        let narrow = meaning::first(table, meaning::narrow_repair);
+        if narrow.is_some() != found.is_some() {
+            return Err(format!("in the narrower sense {narrow:?}, by the clauses {found:?}"));
         }
     }
     Ok(())
 }
 
-// Gives the list that is found.
-pub fn compare(calls: &mut Calls, random: &mut Random, bytes: &[u8], table: &Table) -> Result<Option<Vec<u8>>, String> {
+// Gives the list that is written, and the one before striking; nothing where none is found.
+pub fn compare(calls: &mut Calls, random: &mut Random, bytes: &[u8], table: &Table) -> Result<Vec<Vec<u8>>, String> {
     let (e, v) = (table.steps.len(), variables(table));
     let net = clauses::net(bytes);
     if net.variables != v {
@@ -72,7 +87,10 @@ pub fn compare(calls: &mut Calls, random: &mut Random, bytes: &[u8], table: &Tab
         let rooms = rooms(random, e, v);
         calls.repair(random, bytes, cap, rooms, v, || clauses::search(&net, cap))?;
     }
-    Ok((answer.number == 0).then_some(answer.list))
+    if answer.number != 0 {
+        return Ok(vec![]);
+    }
+    Ok(vec![striking::strike(&table.initial, &table.steps, &answer.list), answer.list])
 }
 
 // A refused table, whatever is lent.

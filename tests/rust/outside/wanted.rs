@@ -1,7 +1,8 @@
-// What each call should answer, by the modules beside this one. The tests go in the order of their numbers.
+// What each call should answer, by the modules beside this one. The tests go in the order of their numbers, but 16 comes before 13.
 use crate::clauses;
 use crate::meaning::{self, Graph};
 use crate::sheet;
+use crate::striking;
 use crate::table::{accept, accept_list, Table};
 
 pub fn judge(table: &[u8], list: &[u8]) -> Result<(), u32> {
@@ -55,12 +56,14 @@ pub struct Rooms {
     pub words: usize,
 }
 
-// `search` gives the answer of the search with a net's clauses; it is asked only where nothing is refused.
+// `search` gives the answer of the search with a net's clauses; it is asked only where nothing is refused. What it finds is struck.
 pub fn repair(table: &[u8], rooms: Rooms, search: impl FnOnce() -> clauses::Answer) -> Result<clauses::Answer, u32> {
     let table = accept(table)?;
     let v = crate::table::variables(&table);
     if rooms.list < table.steps.len() || rooms.bytes < v || rooms.words < v {
         return Err(10);
     }
-    Ok(search())
+    let answer = search();
+    let list = if answer.number == 0 { striking::strike(&table.initial, &table.steps, &answer.list) } else { vec![] };
+    Ok(clauses::Answer { list, ..answer })
 }

@@ -15,6 +15,7 @@ use Rattle.table.specs.Accept.{initialAt, tableVerdict}
 use Rattle.table.specs.Rows.{Rows}
 use Rattle.table.specs.StateSets.{initialWord}
 use Rattle.table.proofs.Accepted.{accepted, state-read}
+use Rattle.table.proofs.TargetSets.{rows-targets}
 use Rattle.ctl.specs.Labels.{keptSteps, isKept, marked}
 use Rattle.ctl.specs.Rule.{rootIndex}
 use Rattle.ctl.proofs.Tabulate.{getD-tabulate}
@@ -121,6 +122,7 @@ returns-2 c =
     let words = words-are t l ok (a .n) n rows r k e (c .before .before .before .label-pass .result) (c .before .before .before .label-pass .ensures) in
     (λ j. record {
       verdict = Accepted;
+      rows = rows-targets (keptSteps (tableOf t .steps) l) rows r j;
       initial = initial-is t l ok (a .n) n rows r (now (c .before .before .states-part .result)) (c .before .before .states-part .ensures) (c .before .initial-states .result) (c .before .initial-states .ensures) j;
       kept = kept-is t l ok (a .n) n rows r k e j;
       root = root-is t l ok (a .n) n rows r (a .f) (c .before .before .before .before .before .before .before .before .before .before .pre .1 .1 .1) (c .before .before .before .label-pass .result) words (c .root-set .result) (c .root-set .ensures) j;

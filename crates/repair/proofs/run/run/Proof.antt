@@ -1,16 +1,17 @@
 -- `run` meets its contract: what it works out is what the search asks for, and the search's words lie within the first V.
-use Prim.Native.Nat.{ℕ}
+use Prim.Native.Nat.{ℕ, _≤_}
 use mathlib.Core.Path.{_≡_, sym, ap, _∙_}
 use mathlib.Core.List.{List}
 use native.Mathlib.Omega.{arith}
 use borrow.Author.Needs.{needs}
-use lib.ListN.{length, getD, drop}
+use lib.ListN.{length, getD, drop, length-append, length-drop}
+use lib.Seq.{length-take-le}
 use denote.Ref.{now}
 use Rattle.table.specs.declared.refusal.Verdict.the-variants.{Accepted}
 use Rattle.table.specs.Table.{tableOf}
 use Rattle.table.specs.Accept.{tableVerdict}
 use Rattle.table.specs.Rows.{targetSets}
-use Rattle.table.proofs.Accepted.{accepted}
+use Rattle.table.proofs.Accepted.{accepted, steps-are}
 use Rattle.table.proofs.TargetSets.{targets-length, targets-at}
 use Rattle.circuit.specs.Variables.{variableFormula}
 use Rattle.closure.specs.declared.net.Net.{Net}
@@ -20,8 +21,9 @@ use Rattle.closure.specs.Setting.{Setting, netOf}
 use Rattle.closure.specs.Bases.{AreBases}
 use Rattle.closure.proofs.LevelsFit.{levels-fit}
 use Rattle.search.specs.TableSearch.{searchUnder}
-use Rattle.repair.specs.Outcome.{carried, answerOf}
+use Rattle.repair.specs.Outcome.{carried}
 use Rattle.repair.proofs.Cleared.{same-beyond}
+use Rattle.repair.proofs.ListAfter.{after-found, after-none, after-spent}
 use Rattle.repair.proofs.run.run.Statement.{statement}
 use Rattle.repair.proofs.run.run.Tie as tie
 
@@ -62,12 +64,6 @@ search-table-requires c κs =
     let setting = setting-of (now (start .args .table)) (start .pre .0) (c .before .before .before .before .before .before .before .net-of .ensures) targets bases in
     (setting, (bases .total, (omega (arith, fit, start .pre .1 .1), start .pre .1 .0)))
 
--- what the search answers, carried over
-answered : (c : tie.After-search-table)
-    → carried (c .search-table .result)
-    ≡ answerOf (searchUnder (tableOf (now (c .before .before .before .before .before .before .before .before .before .before .before .before .args .table))) (c .before .before .before .before .before .before .before .before .before .before .before .before .args .cap))
-answered c = ap carried (c .search-table .ensures .0)
-
 -- what the search leaves of the words past the first V
 beyond : (c : tie.After-search-table)
     → drop (variableFormula (tableOf (now (c .before .before .before .before .before .before .before .before .before .before .before .before .args .table)))) (c .search-table .last .1 .1 .1 .1 .1 .1 .1 .0)
@@ -87,16 +83,62 @@ enum-known-c-2 c = search needs
 enum-known-c-3 : tie.Need-enum-known-c-3
 enum-known-c-3 c = search needs
 
+counts-of-requires : tie.Need-counts-of-requires
+counts-of-requires c κs = search needs
+
+-- e, and that the list has e bytes still
+steps-count : (c : tie.After-counts-of)
+    → let gave = c .before .before .before .before .before .before .before .before in
+    let start = gave .before .before .before .before .before .before .before .before .before .before .before .before in
+    c .counts-of .result .steps ≡ length (tableOf (now (start .args .table)) .steps)
+steps-count c =
+    let gave = c .before .before .before .before .before .before .before .before in
+    let start = gave .before .before .before .before .before .before .before .before .before .before .before .before in
+    steps-are (now (start .args .table)) (c .counts-of .result) (c .counts-of .ensures)
+
+front-fits : (c : tie.After-counts-of)
+    → let gave = c .before .before .before .before .before .before .before .before in
+    c .counts-of .result .steps ≤ length (gave .search-table .last .1 .1 .1 .1 .1 .1 .0)
+front-fits c =
+    let gave = c .before .before .before .before .before .before .before .before in
+    let start = gave .before .before .before .before .before .before .before .before .before .before .before .before in
+    omega (arith, steps-count c, gave .search-table .kept .1 .1 .1 .1 .1 .1 .0, start .pre .1 .0)
+
+slice-relend-prefix-strike-unreached : tie.Need-slice-relend-prefix-strike-unreached
+slice-relend-prefix-strike-unreached c = front-fits c
+
+slice-aggregate-strike-unreached : tie.Need-slice-aggregate-strike-unreached
+slice-aggregate-strike-unreached c = sym (length-take-le _ _ (front-fits (c .before)))
+
+strike-unreached-requires : tie.Need-strike-unreached-requires
+strike-unreached-requires c κs =
+    let gave = c .before .before .before .before .before .before .before .before .before in
+    let start = gave .before .before .before .before .before .before .before .before .before .before .before .before in
+    (start .pre .0, (gave .before .before .before .before .before .before .before .before .net-of .ensures, length-take-le _ _ (front-fits (c .before)) ∙ steps-count (c .before)))
+
 same-length : tie.Need-same-length
-same-length c = search needs
+same-length c =
+    let counts = c .before .before .before .before in
+    let gave = counts .before .before .before .before .before .before .before .before in
+    let e = counts .counts-of .result .steps in
+    let after = gave .search-table .last .1 .1 .1 .1 .1 .1 .0 in
+    let struck = c .before .before .strike-unreached in
+    let front : length (struck .last .1 .1 .0) ≡ e = struck .kept .1 .1 .0 ∙ length-take-le e after (front-fits counts) in
+    omega (arith, front, front-fits counts, length-append (struck .last .1 .1 .0) (drop e after), length-drop e after, gave .search-table .kept .1 .1 .1 .1 .1 .1 .0)
 
 same-length-2 : tie.Need-same-length-2
 same-length-2 c = search needs
 
 returns : tie.Need-returns
 returns c =
-    let gave = c .before .before .before .before .before .before .before in
-    (ap carried (sym (c .before .c .given .1)) ∙ answered gave, (gave .search-table .ensures .1 .0, beyond gave))
+    let counts = c .before .before .before .before in
+    let gave = counts .before .before .before .before .before .before .before .before in
+    let start = gave .before .before .before .before .before .before .before .before .before .before .before .before in
+    let T = tableOf (now (start .args .table)) in
+    let list = now (start .args .list) in
+    let told = sym (counts .before .before .c .given .1) ∙ gave .search-table .ensures .0 in
+    let struck = c .before .before .strike-unreached in
+    (ap carried told, (after-found T list _ (searchUnder T (start .args .cap)) _ (counts .counts-of .result .steps) told (gave .search-table .ensures .1 .0) (steps-count counts) (struck .last .1 .1 .0) (struck .ensures), beyond gave))
 
 same-length-3 : tie.Need-same-length-3
 same-length-3 c = search needs
@@ -107,7 +149,11 @@ same-length-4 c = search needs
 returns-2 : tie.Need-returns-2
 returns-2 c =
     let gave = c .before .before .before .before .before .before .before in
-    (ap carried (sym (c .before .c2 .given .1)) ∙ answered gave, (gave .search-table .ensures .1 .0, beyond gave))
+    let start = gave .before .before .before .before .before .before .before .before .before .before .before .before in
+    let T = tableOf (now (start .args .table)) in
+    let list = now (start .args .list) in
+    let told = sym (c .before .c2 .given .1) ∙ gave .search-table .ensures .0 in
+    (ap carried told, (after-none T list _ (searchUnder T (start .args .cap)) _ told (gave .search-table .ensures .1 .0), beyond gave))
 
 same-length-5 : tie.Need-same-length-5
 same-length-5 c = search needs
@@ -118,7 +164,11 @@ same-length-6 c = search needs
 returns-3 : tie.Need-returns-3
 returns-3 c =
     let gave = c .before .before .before .before .before .before .before in
-    (ap carried (sym (c .before .c3 .given .1)) ∙ answered gave, (gave .search-table .ensures .1 .0, beyond gave))
+    let start = gave .before .before .before .before .before .before .before .before .before .before .before .before in
+    let T = tableOf (now (start .args .table)) in
+    let list = now (start .args .list) in
+    let told = sym (c .before .c3 .given .1) ∙ gave .search-table .ensures .0 in
+    (ap carried told, (after-spent T list _ (searchUnder T (start .args .cap)) _ told (gave .search-table .ensures .1 .0), beyond gave))
 
 pub run-spec : {M : Type 1} → statement M
 run-spec =
@@ -131,6 +181,10 @@ run-spec =
     slice-aggregate-search-table-2
     search-table-requires
     enum-known-c
+    counts-of-requires
+    slice-relend-prefix-strike-unreached
+    slice-aggregate-strike-unreached
+    strike-unreached-requires
     enum-known-c-2
     enum-known-c-3
     same-length
