@@ -9,7 +9,7 @@ use borrow.Author.Tests.{eqb-true, eq-eqb}
 use lib.Dec.{eqb}
 use lib.ListN.{length}
 use Rattle.sets.specs.Member.{member}
-use Rattle.sets.proofs.SetOf.{setOf-lt}
+use Rattle.sets.proofs.SetOf.{setOf-lt, in-set}
 use Rattle.table.specs.declared.record.Step.{Step}
 use Rattle.table.specs.Accept.{sameStep}
 use Rattle.table.specs.Table.{Table, zeroStep, stepAt}
@@ -20,7 +20,6 @@ use Rattle.table.proofs.Bools.{and-parts, parts-and}
 use Rattle.table.proofs.Numbers.{neither-less}
 use Rattle.circuit.specs.Variables.{stepsOut}
 use Rattle.circuit.proofs.Lists.{in-out}
-use Rattle.closure.proofs.RowLaws.{set-true}
 
 pub target-true : (T : Table) → Wellformed T → (s t : ℕ)
     → (member (targetSet (T .steps) s) t ≡ true) ↔ ((j : ℕ) × (j < length (T .steps)) × (stepAt T j .from ≡ s) × (stepAt T j .to ≡ t))
@@ -32,7 +31,7 @@ target-true T wf s t = (there, back)
 
     there : member (targetSet (T .steps) s) t ≡ true → (j : ℕ) × (j < length (T .steps)) × (stepAt T j .from ≡ s) × (stepAt T j .to ≡ t)
     there e =
-        let f = any-at is-step (T .steps) zeroStep (set-true 32 _ t .0 e .1) in
+        let f = any-at is-step (T .steps) zeroStep (in-set 32 _ t .0 e .1) in
         let p = and-parts (eqb s (stepAt T (f .0) .from)) (eqb t (stepAt T (f .0) .to)) (f .2) in
         (f .0, f .1, sym (eqb-true s (stepAt T (f .0) .from) (p .0)), sym (eqb-true t (stepAt T (f .0) .to) (p .1)))
 
@@ -40,7 +39,7 @@ target-true T wf s t = (there, back)
     back (j, l, p, q) =
         let below : stepAt T j .to < length (T .states) = wf .to-state j l in
         let few : length (T .states) ≤ 32 = wf .few-states in
-        set-true 32 _ t .1 (
+        in-set 32 _ t .1 (
           omega arith,
           at-any is-step (T .steps) zeroStep j l
               (parts-and (eqb s (stepAt T j .from)) (eqb t (stepAt T j .to)) (eq-eqb s (stepAt T j .from) (sym p)) (eq-eqb t (stepAt T j .to) (sym q))),

@@ -7,16 +7,17 @@ use mathlib.Core.Logic.{_↔_}
 use borrow.Author.Tests.{eqb-true, eq-eqb}
 use lib.ListN.{length}
 use Rattle.sets.specs.Member.{member}
+use Rattle.sets.proofs.SetOf.{in-set}
 use Rattle.table.specs.Table.{Table}
 use Rattle.table.specs.Facts.{Wellformed}
 use Rattle.ctl.specs.Kept.{Initial}
 use Rattle.closure.specs.Rest.{initialSet}
-use Rattle.closure.proofs.RowLaws.{set-true, set-small}
+use Rattle.closure.proofs.RowLaws.{set-small}
 
 pub initial-true : (T : Table) (s : ℕ) → (member (initialSet T) s ≡ true) ↔ Initial T s
 initial-true T s = (
-  λ m. let r = set-true (length (T .states)) _ s .0 m in (r .0, eqb-true _ 1 (r .1)),
-  λ i. set-true (length (T .states)) _ s .1 (i .0, eq-eqb _ 1 (i .1)),
+  λ m. let r = in-set (length (T .states)) _ s .0 m in (r .0, eqb-true _ 1 (r .1)),
+  λ i. in-set (length (T .states)) _ s .1 (i .0, eq-eqb _ 1 (i .1)),
 )
 
 pub initial-small : (T : Table) → Wellformed T → initialSet T < 2 ^ 32

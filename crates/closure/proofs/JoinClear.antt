@@ -10,9 +10,9 @@ use Rattle.rows.specs.declared.row.Row.{Row}
 use Rattle.rows.specs.Row.{ClearAt, clashes}
 use Rattle.rows.specs.Words.{SmallRow}
 use Rattle.rows.specs.Rules.{row, eitherRow, joinRelease, joinAlways, joinOf, innerOf}
-use Rattle.closure.proofs.RowLaws.{clear-row}
+use Rattle.closure.proofs.RowLaws.{turned-small, clear-row}
 use Rattle.closure.proofs.TurnedRows.{clear-turned}
-use Rattle.closure.proofs.RulesSmall.{turned-small, either-small, release-small, always-small}
+use Rattle.closure.proofs.RulesSmall.{either-small, release-small, always-small}
 
 none-clear : (s : ℕ) → ClearAt s (row 0 0)
 none-clear s e f = false≢true (sym (member-zero s) ∙ e)

@@ -7,6 +7,7 @@ use borrow.Author.Tests.{eqb-true, not-true}
 use lib.Dec.{eqb}
 use lib.ListN.{length}
 use Rattle.sets.specs.Member.{member}
+use Rattle.sets.proofs.Laws.{member-inside}
 use Rattle.table.specs.Table.{Table, stepAt}
 use Rattle.table.specs.Facts.{Wellformed}
 use Rattle.table.specs.Rows.{targetSet}
@@ -22,7 +23,7 @@ use Rattle.rows.specs.Row.{only}
 use Rattle.rows.specs.Words.{SmallRow}
 use Rattle.rows.specs.Rules.{unstruck, keptRow, keptSteps}
 use Rattle.closure.specs.Inside.{RowIn, StepsIn}
-use Rattle.closure.proofs.RowLaws.{without-true, empty-none, nonempty-some, member-below, and-true, without-small}
+use Rattle.closure.proofs.RowLaws.{without-true, empty-none, nonempty-some, and-true, without-small}
 use Rattle.closure.proofs.Ends.{target-true, target-small, out-target}
 use Rattle.closure.proofs.Forced.{Closed}
 use Rattle.closure.proofs.GateOf.{kept-gate}
@@ -56,7 +57,7 @@ module _ (T : Table) (wf : Wellformed T) (S : Literal Var → Type 0) (closed : 
 
         go : (b : Bool) → member (x .no) t ≡ b → S (neg (step j))
         go true f = step-known T S wf s x steps j (out .0) (out .1) false f
-        go false f = absurd (false≢true (sym none ∙ without-true _ (x .no) t (small .1) .1 (member-below _ t (target-small (T .steps) s) (out-target T wf s j m), out-target T wf s j m, f)))
+        go false f = absurd (false≢true (sym none ∙ without-true _ (x .no) t (small .1) .1 (member-inside 32 _ t (target-small (T .steps) s) (out-target T wf s j m), out-target T wf s j m, f)))
 
     -- a kept step keeps s and its end; s with no step left is not kept
     pub kept-row-in : RowIn T S kept (keptRow s (targetSet (T .steps) s) x)

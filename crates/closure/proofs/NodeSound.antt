@@ -7,7 +7,7 @@ use mathlib.Core.List.{_∷_, [], List·Memᴰ}
 use borrow.Author.Tests.{ltb-true}
 use lib.ListN.{length}
 use Rattle.sets.specs.Member.{member, setOf}
-use Rattle.sets.proofs.SetOf.{member-setOf-below}
+use Rattle.sets.proofs.SetOf.{member-setOf-below, in-set}
 use Rattle.table.specs.declared.family.Family.{Family}
 use Rattle.table.specs.Table.{Table, stateAt, nodeAt}
 use Rattle.table.specs.Facts.{Wellformed}
@@ -23,7 +23,7 @@ use Rattle.rows.specs.Rules.{andOutput, andInput, constantRow}
 use Rattle.closure.specs.Dual.{isEvery}
 use Rattle.closure.specs.Rest.{constantSet, labelledSet}
 use Rattle.closure.specs.Inside.{literal, RowIn}
-use Rattle.closure.proofs.RowLaws.{without-true, set-true, set-small}
+use Rattle.closure.proofs.RowLaws.{without-true, set-small}
 use Rattle.closure.proofs.Forced.{Closed}
 use Rattle.closure.proofs.GateRules.{and-up}
 use Rattle.closure.proofs.GateOf.{ClosedGate, bothOf, constant-gate, atom-gate, negation-gate, both-gate, first-gate}
@@ -43,7 +43,7 @@ module _ (T : Table) (wf : Wellformed T) (S : Literal Var → Type 0) (closed : 
       (set-by _ f (λ s l e. (l, subst (λ (b : Bool). S (literal b (v s))) e (constant-value S (v s) (f s) (gate s l)))))
       (λ s m.
       let r = without-true _ (setOf (length (T .states)) f) s (set-small (length (T .states)) (omega (arith, wf .few-states)) f) .0 m in
-      let l : s < length (T .states) = ltb-true s (length (T .states)) (set-true 32 _ s .0 (r .1) .1) in
+      let l : s < length (T .states) = ltb-true s (length (T .states)) (in-set 32 _ s .0 (r .1) .1) in
       (l, subst (λ (b : Bool). S (literal b (v s))) (sym (member-setOf-below (length (T .states)) f s l) ∙ r .2) (constant-value S (v s) (f s) (gate s l))))
 
   module _ (i : ℕ) (h : i < length (T .nodes)) where

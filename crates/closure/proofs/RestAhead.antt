@@ -4,6 +4,7 @@ use mathlib.Core.Path.{_≡_, refl, sym, ap, subst, _∙_}
 use mathlib.Core.Bool.{Bool, true, false, not}
 use mathlib.Core.List.{List, map, map-map, List·Memᴰ}
 use lib.ListN.{length}
+use Rattle.sets.proofs.SetOf.{in-set}
 use Rattle.table.specs.Table.{Table, stepAt, nodeAt}
 use Rattle.table.specs.Facts.{Wellformed}
 use Rattle.table.specs.Rows.{targetSet}
@@ -19,7 +20,7 @@ use Rattle.rows.specs.Words.{SmallRow}
 use Rattle.closure.specs.Knowledge.{Knowledge, Small}
 use Rattle.closure.specs.Rest.{aheadOf, RestBack, Rest}
 use Rattle.closure.specs.Inside.{literal}
-use Rattle.closure.proofs.RowLaws.{set-true, some-nonempty, and-true, turned-small}
+use Rattle.closure.proofs.RowLaws.{some-nonempty, and-true, turned-small}
 use Rattle.closure.proofs.Ends.{target-true, target-small, out-target}
 use Rattle.closure.proofs.TurnedRows.{turned-twice, clear-turned, within-turned}
 use Rattle.closure.proofs.AndClosed.{AndRules, GateRules, many-rules}
@@ -53,8 +54,8 @@ module _ (T : Table) (wf : Wellformed T) (K : Knowledge) where
             let j = target-true T wf s t .0 m in
             clear-turned (isEvery q) end t (clear-end t (subst (λ (t : ℕ). t < length (T .states)) (j .3) (wf .to-state (j .0) (j .1))));
         clear = clear-turned (isEvery q) over s clear;
-        met = λ e. within true (set-true _ _ s .1 (h, e));
-        missed = λ t o e. within false (set-true _ _ s .1 (h, ap not (some-nonempty _ t (and-true _ _ t .1 (o, e)))));
+        met = λ e. within true (in-set _ _ s .1 (h, e));
+        missed = λ t o e. within false (in-set _ _ s .1 (h, ap not (some-nonempty _ t (and-true _ _ t .1 (o, e)))));
         steps = back .steps;
         ends = back .ends;
       }

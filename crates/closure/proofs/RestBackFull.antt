@@ -9,6 +9,8 @@ use lib.Bits.{bitAnd, and-lt}
 use lib.Dec.{eqb}
 use lib.ListN.{length}
 use Rattle.sets.specs.Member.{member}
+use Rattle.sets.proofs.Laws.{member-inside}
+use Rattle.sets.proofs.SetOf.{in-set}
 use Rattle.table.specs.Table.{Table}
 use Rattle.table.specs.Facts.{Wellformed}
 use Rattle.table.specs.Rows.{targetSet}
@@ -22,7 +24,7 @@ use Rattle.rows.specs.Words.{SmallRow}
 use Rattle.closure.specs.Knowledge.{Knowledge, Small}
 use Rattle.closure.specs.Rest.{aheadOf, RestBack}
 use Rattle.closure.proofs.Forced.{one-of-both}
-use Rattle.closure.proofs.RowLaws.{and-true, cond-true, set-true, without-true, without-small, empty-none, nonempty-some, only-true, set-small, member-below, turned-small, unmet-true}
+use Rattle.closure.proofs.RowLaws.{and-true, cond-true, without-true, without-small, empty-none, nonempty-some, only-true, set-small, turned-small, unmet-true}
 use Rattle.closure.proofs.Ends.{target-true, target-small}
 use Rattle.closure.proofs.TurnedRows.{clear-turned}
 
@@ -45,7 +47,7 @@ module _ (target : ℕ) (out end : Row) (small-target : target < 2 ^ 32) (small-
   -- where no step is left, each is struck or has its end true
   met-each : Met → (t : ℕ) → member target t ≡ true → (known out false t ≡ true) ⊎ (known end true t ≡ true)
   met-each none t m = ⊎-elim inl (λ a. ⊎-elim inr
-      (λ b. absurd (true≢false (sym (unmet-true target out end small-out small-end t .1 (member-below target t small-target m, m, a, b))
+      (λ b. absurd (true≢false (sym (unmet-true target out end small-out small-end t .1 (member-inside 32 target t small-target m, m, a, b))
       ∙ empty-none _ none t)))
       (one-of-both (known end true t) true))
       (one-of-both (known out false t) true)
@@ -159,8 +161,8 @@ module _ (T : Table) (wf : Wellformed T) (K : Knowledge) where
 
       of-true : known (turned (isEvery q) over) true s ≡ true
           → (known (turned (isEvery q) (newOf over (aheadOf T K q end))) true s ≡ true) ⊎ (eqb (unmet target (K .steps s) ends) 0 ≡ true)
-      of-true e = ⊎-elim inl (λ u. inr (set-true _ _ s .0 u .1)) (new-turned (isEvery q) over up small-up true s (omega (arith, few)) e)
+      of-true e = ⊎-elim inl (λ u. inr (in-set _ _ s .0 u .1)) (new-turned (isEvery q) over up small-up true s (omega (arith, few)) e)
 
       of-false : known (turned (isEvery q) over) false s ≡ true
           → (known (turned (isEvery q) (newOf over (aheadOf T K q end))) false s ≡ true) ⊎ (not (eqb (bitAnd (K .steps s .yes) (ends .no)) 0) ≡ true)
-      of-false e = ⊎-elim inl (λ u. inr (set-true _ _ s .0 u .1)) (new-turned (isEvery q) over up small-up false s (omega (arith, few)) e)
+      of-false e = ⊎-elim inl (λ u. inr (in-set _ _ s .0 u .1)) (new-turned (isEvery q) over up small-up false s (omega (arith, few)) e)

@@ -9,6 +9,7 @@ use borrow.Author.Tests.{eq-eqb}
 use lib.Dec.{eqb}
 use lib.ListN.{length}
 use Rattle.sets.specs.Member.{member}
+use Rattle.sets.proofs.SetOf.{in-set}
 use Rattle.table.specs.Table.{Table, stepAt}
 use Rattle.table.specs.Facts.{Wellformed}
 use Rattle.table.specs.Rows.{targetSet}
@@ -22,7 +23,7 @@ use Rattle.rows.specs.Row.{known, turned}
 use Rattle.rows.specs.Rules.{unstruck}
 use Rattle.closure.specs.Knowledge.{Knowledge, Small}
 use Rattle.closure.specs.Rest.{Rest}
-use Rattle.closure.proofs.RowLaws.{without-true, without-small, none-empty, some-nonempty, or-true, cond-true, set-true}
+use Rattle.closure.proofs.RowLaws.{without-true, without-small, none-empty, some-nonempty, or-true, cond-true}
 use Rattle.closure.proofs.Ends.{target-true, target-small, out-target}
 use Rattle.closure.proofs.OneMember.{same-or, only-this}
 use Rattle.closure.proofs.AndClosed.{GateRules, many-rules}
@@ -50,7 +51,7 @@ module _ (T : Table) (wf : Wellformed T) (K : Knowledge) (small : Small K) (rest
   -- ---- what the rules say
 
   none-left : eqb (left T K s) 0 ≡ true → known (K .kept) false s ≡ true
-  none-left e = rest .kept s h .up s false (set-true 32 _ s .1 (omega (arith, wf .few-states), parts-and _ _ (eq-eqb s s refl) e))
+  none-left e = rest .kept s h .up s false (in-set 32 _ s .1 (omega (arith, wf .few-states), parts-and _ _ (eq-eqb s s refl) e))
 
   all-struck : ((t : ℕ) → member (ends T s) t ≡ true → known (K .steps s) false t ≡ true) → known (K .kept) false s ≡ true
   all-struck each = none-left (none-empty _ left-small (λ t l. not-so _ (λ m.
@@ -61,7 +62,7 @@ module _ (T : Table) (wf : Wellformed T) (K : Knowledge) (small : Small K) (rest
 
   kept-one : (t : ℕ) → known (K .steps s) true t ≡ true → known (K .kept) true s ≡ true
   kept-one t e = rest .kept s h .up s true (or-true (K .steps s .yes) _ s .1 (inr
-      (set-true 32 _ s .1 (omega (arith, wf .few-states), parts-and _ _ (eq-eqb s s refl) (ap not (some-nonempty _ t e))))))
+      (in-set 32 _ s .1 (omega (arith, wf .few-states), parts-and _ _ (eq-eqb s s refl) (ap not (some-nonempty _ t e))))))
 
   last-kept : known (K .kept) true s ≡ true → (t : ℕ) → ((u : ℕ) → member (ends T s) u ≡ true → ¬ (u ≡ t) → known (K .steps s) false u ≡ true)
       → known (K .steps s) true t ≡ true

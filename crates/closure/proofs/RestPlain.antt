@@ -8,6 +8,7 @@ use borrow.Author.Tests.{lt-ltb, eqb-true, eqb-false}
 use lib.Dec.{eqb, ltb}
 use lib.ListN.{length}
 use Rattle.sets.specs.Member.{setOf}
+use Rattle.sets.proofs.SetOf.{in-set}
 use Rattle.table.specs.Table.{Table}
 use Rattle.table.specs.Facts.{Wellformed}
 use Rattle.table.proofs.Bools.{not-so}
@@ -22,7 +23,7 @@ use Rattle.closure.specs.Dual.{isEvery}
 use Rattle.closure.specs.Knowledge.{Knowledge}
 use Rattle.closure.specs.Rest.{RestBoth, RestSame, Rest}
 use Rattle.closure.specs.Inside.{literal}
-use Rattle.closure.proofs.RowLaws.{without-true, set-true, set-small}
+use Rattle.closure.proofs.RowLaws.{without-true, set-small}
 use Rattle.closure.proofs.TurnedRows.{within-duals}
 use Rattle.closure.proofs.AndClosed.{AndRules, GateRules, none-rules, twice-rules}
 use Rattle.closure.proofs.Says.{rowOf, placeOf, Says, Is, one-row, two-rows}
@@ -46,11 +47,11 @@ constant-known : (n : ℕ) → n < 33 → (f : ℕ → Bool) (s : ℕ) → s < n
 constant-known n few f s h = go (f s) refl
   where
     go : (b : Bool) → f s ≡ b → known (constantRow n (setOf n f)) b s ≡ true
-    go true e = set-true n f s .1 (h, e)
+    go true e = in-set n f s .1 (h, e)
     go false e = without-true _ (setOf n f) s (set-small n few f) .1 (
       omega arith,
-      set-true 32 (λ t. ltb t n) s .1 (omega arith, lt-ltb s n h),
-      not-so _ (λ m. true≢false (sym (set-true n f s .0 m .1) ∙ e)),
+      in-set 32 (λ t. ltb t n) s .1 (omega arith, lt-ltb s n h),
+      not-so _ (λ m. true≢false (sym (in-set n f s .0 m .1) ∙ e)),
     )
 
 module _ (T : Table) (wf : Wellformed T) (K : Knowledge) (rest : Rest T K) (i : ℕ) (h : i < length (T .nodes)) where

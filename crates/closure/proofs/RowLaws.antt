@@ -4,15 +4,14 @@ use native.Mathlib.Omega.{arith}
 use mathlib.Core.Path.{_≡_, refl, sym, ap, ap₂, _∙_}
 use mathlib.Core.Bool.{Bool, true, false, not, cond, _&&_, _||_, true≢false, false≢true}
 use mathlib.Core.Logic.{_↔_, _⊎_, ⊎-elim}
-use native.Mathlib.Decide.{decLt}
 use native.Mathlib.Nat.{lt-of-lt-of-le, lt-of-le-of-lt}
 use borrow.Author.Tests.{eqb-true, eqb-false, eq-eqb, ne-eqb, ltb-true, lt-ltb, not-true, not-false}
 use lib.Bits.{bitAnd, bitOr, and-lt, or-lt}
 use lib.Dec.{eqb, ltb}
 use lib.Pow.{pow-mono, ones-sub-lt}
 use Rattle.sets.specs.Member.{member, setOf, lowestOf}
-use Rattle.sets.proofs.Laws.{member-and, member-or, member-zero, member-past, member-complement}
-use Rattle.sets.proofs.SetOf.{member-setOf, member-setOf-below, setOf-lt, empty, some-member, lowestOf-has, lowestOf-least}
+use Rattle.sets.proofs.Laws.{member-and, member-or, member-zero, member-complement, member-inside}
+use Rattle.sets.proofs.SetOf.{member-setOf-below, setOf-lt, empty, some-member, lowestOf-has, lowestOf-least, in-set}
 use Rattle.table.proofs.Bools.{and-parts, parts-and, or-parts, or-left, or-right, or-neither}
 use Rattle.rows.specs.declared.row.Row.{Row}
 use Rattle.rows.specs.Row.{known, turned, without, only, Clear, clashes, union}
@@ -37,13 +36,6 @@ pub cond-true : (b : Bool) (x t : ℕ) → (member (cond b x 0) t ≡ true) ↔ 
 cond-true true x t = (λ e. (refl, e), λ r. r .1)
 cond-true false x t = (λ e. absurd (true≢false (sym e ∙ member-zero t)), λ r. absurd (false≢true (r .0)))
 
--- members of a set by a property
-pub set-true : (n : ℕ) (f : ℕ → Bool) (t : ℕ) → (member (setOf n f) t ≡ true) ↔ ((t < n) × (f t ≡ true))
-set-true n f t = (
-  λ e. let p = and-parts (ltb t n) (f t) (sym (member-setOf n f t) ∙ e) in (ltb-true t n (p .0), p .1),
-  λ r. member-setOf n f t ∙ parts-and (ltb t n) (f t) (lt-ltb t n (r .0)) (r .1),
-)
-
 -- a member of one set that is not in the other
 pub without-true : (x y t : ℕ) → y < 2 ^ 32 → (member (without x y) t ≡ true) ↔ ((t < 32) × (member x t ≡ true) × (member y t ≡ false))
 without-true x y t h = (
@@ -67,14 +59,6 @@ none-empty x h none = eq-eqb x 0 (empty 32 x h none)
 pub some-nonempty : (x t : ℕ) → member x t ≡ true → eqb x 0 ≡ false
 some-nonempty x t e = ne-eqb x 0 (λ q. true≢false (sym e ∙ ap (λ (y : ℕ). member y t) q ∙ member-zero t))
 
--- a member is below 32
-pub member-below : (x t : ℕ) → x < 2 ^ 32 → member x t ≡ true → t < 32
-member-below x t h e = go (decLt t 32)
-  where
-    go : Dec (t < 32) → t < 32
-    go (yes l) = l
-    go (no l) = absurd (true≢false (sym e ∙ member-past 32 x t h (omega (arith, l))))
-
 -- a set with one member has no other
 pub only-true : (x : ℕ) → x < 2 ^ 32 → (only x ≡ true) ↔ ((c : ℕ) × (member x c ≡ true) × ((t : ℕ) → member x t ≡ true → t ≡ c))
 unfolding only
@@ -88,7 +72,7 @@ only-true x h = (there, back)
     others = setOf 32 (λ t. member x t && not (eqb t low))
 
     below : (t : ℕ) → member x t ≡ true → low < 32
-    below t e = lt-of-le-of-lt (lowestOf-least 32 (member x) t e) (member-below x t h e)
+    below t e = lt-of-le-of-lt (lowestOf-least 32 (member x) t e) (member-inside 32 x t h e)
 
     there : only x ≡ true → (c : ℕ) × (member x c ≡ true) × ((t : ℕ) → member x t ≡ true → t ≡ c)
     there e =
@@ -99,7 +83,7 @@ only-true x h = (there, back)
         same : (t : ℕ) → member x t ≡ true → eqb others 0 ≡ true → (b : Bool) → eqb t low ≡ b → t ≡ low
         same t m none true q = eqb-true t low q
         same t m none false q = absurd (true≢false (sym
-            (set-true 32 (λ t. member x t && not (eqb t low)) t .1 (member-below x t h m, parts-and (member x t) (not (eqb t low)) m (ap not q)))
+            (in-set 32 (λ t. member x t && not (eqb t low)) t .1 (member-inside 32 x t h m, parts-and (member x t) (not (eqb t low)) m (ap not q)))
             ∙ empty-none others none t))
 
     back : (c : ℕ) × (member x c ≡ true) × ((t : ℕ) → member x t ≡ true → t ≡ c) → only x ≡ true

@@ -1,7 +1,7 @@
 -- The rows that the rules make of machine words are machine words.
 use Prim.Native.Nat.{ℕ, _^_, _<_}
 use native.Mathlib.Omega.{arith}
-use mathlib.Core.Bool.{Bool, true, false, _&&_}
+use mathlib.Core.Bool.{Bool, false, _&&_}
 use lib.Bits.{and-lt, or-lt}
 use Rattle.sets.specs.Member.{member}
 use Rattle.sets.proofs.SetOf.{setOf-lt}
@@ -12,7 +12,7 @@ use Rattle.rows.specs.declared.joined.Joined.{Joined}
 use Rattle.rows.specs.Row.{turned, only}
 use Rattle.rows.specs.Words.{SmallRow}
 use Rattle.rows.specs.Rules.{row, unmet, aheadRow, lastLeft, backSteps, backEnd, andOutput, andInput, eitherRow, joinRelease, joinAlways, falls, joinFalling, turnedJoined, joinOf, unstruck, keptRow, keptSteps, openStarts, startKept, startRoot, constantRow}
-use Rattle.closure.proofs.RowLaws.{without-small, cond-small, set-small}
+use Rattle.closure.proofs.RowLaws.{without-small, cond-small, set-small, turned-small}
 
 pub none-small : SmallRow (row 0 0)
 none-small = (omega arith, omega arith)
@@ -45,10 +45,6 @@ output-small g a b G A B = (
 
 pub input-small : (g b : Row) → SmallRow g → SmallRow b → SmallRow (andInput g b)
 input-small g b G B = (G .0, and-lt 32 (g .no) (b .yes) (G .1) (B .0))
-
-pub turned-small : (e : Bool) (r : Row) → SmallRow r → SmallRow (turned e r)
-turned-small true r h = h
-turned-small false r h = (h .1, h .0)
 
 -- the rows that a level joins
 pub record SmallJoined (J : Joined) : Type 0 where

@@ -7,6 +7,7 @@ use lib.Bits.{bitAnd, bitOr}
 use lib.ListN.{length}
 use Rattle.sets.specs.Member.{member, setOf}
 use Rattle.sets.proofs.Laws.{member-zero}
+use Rattle.sets.proofs.SetOf.{in-set}
 use Rattle.table.specs.Table.{Table, stepAt}
 use Rattle.table.specs.Facts.{Wellformed}
 use Rattle.table.proofs.Bools.{not-so}
@@ -15,7 +16,7 @@ use Rattle.circuit.specs.Variables.{Var, step}
 use Rattle.rows.specs.declared.row.Row.{Row}
 use Rattle.rows.specs.Row.{known, turned, only}
 use Rattle.closure.specs.Inside.{literal, RowIn, StepsIn}
-use Rattle.closure.proofs.RowLaws.{and-true, or-true, cond-true, set-true, only-true}
+use Rattle.closure.proofs.RowLaws.{and-true, or-true, cond-true, only-true}
 use Rattle.closure.proofs.Ends.{same-ends}
 
 -- each member of the set has P
@@ -38,7 +39,7 @@ pub set-cond : {P : ℕ → Type 0} (b : Bool) (x : ℕ) → (b ≡ true → Set
 set-cond b x p s m = let k = cond-true b x s .0 m in p (k .0) s (k .1)
 
 pub set-by : {P : ℕ → Type 0} (n : ℕ) (f : ℕ → Bool) → ((s : ℕ) → s < n → f s ≡ true → P s) → SetIn P (setOf n f)
-set-by n f p s m = let k = set-true n f s .0 m in p s (k .0) (k .1)
+set-by n f p s m = let k = in-set n f s .0 m in p s (k .0) (k .1)
 
 module _ (T : Table) (S : Literal Var → Type 0) where
   -- the variable of state s is in S with this sign

@@ -4,7 +4,7 @@ use mathlib.Core.Path.{_≡_, refl, sym, ap, _∙_}
 use mathlib.Core.Bool.{Bool, true, false, false≢true}
 use mathlib.Core.List.{List·Memᴰ, Memᴰ·map}
 use Rattle.sets.specs.Member.{member}
-use Rattle.sets.proofs.Laws.{member-zero}
+use Rattle.sets.proofs.Laws.{member-zero, member-inside}
 use Rattle.table.specs.Table.{Table}
 use Rattle.table.specs.Facts.{Wellformed}
 use Rattle.ctl.specs.Rule.{rootIndex}
@@ -20,7 +20,7 @@ use Rattle.rows.specs.Words.{SmallRow}
 use Rattle.rows.specs.Rules.{openStarts, startKept, startRoot}
 use Rattle.closure.specs.Rest.{initialSet}
 use Rattle.closure.specs.Inside.{RowIn, Clash}
-use Rattle.closure.proofs.RowLaws.{without-true, member-below, only-true, and-true, without-small}
+use Rattle.closure.proofs.RowLaws.{without-true, only-true, and-true, without-small}
 use Rattle.closure.proofs.InitialSet.{initial-true, initial-small}
 use Rattle.closure.proofs.Forced.{Closed}
 use Rattle.closure.proofs.SetsIn.{set-cond, row-in}
@@ -43,7 +43,7 @@ module _ (T : Table) (wf : Wellformed T) (S : Literal Var → Type 0) (closed : 
 
         go : (b : Bool) → member (k .no) s ≡ b → S (neg (kept s))
         go true f = in-k false s f .1
-        go false f = absurd (false≢true (sym none ∙ without-true (initialSet T) (k .no) s (small .1) .1 (member-below _ s (initial-small T wf) start, start, f)))
+        go false f = absurd (false≢true (sym none ∙ without-true (initialSet T) (k .no) s (small .1) .1 (member-inside 32 _ s (initial-small T wf) start, start, f)))
 
     -- the last initial state left is kept, and one where the root is false is not
     pub start-kept-in : (r : Row) → RowIn T S (value T (rootIndex T)) r → RowIn T S kept (startKept (initialSet T) k r)

@@ -10,6 +10,7 @@ use borrow.Author.Tests.{eqb-true}
 use lib.Dec.{eqb}
 use lib.ListN.{length}
 use Rattle.sets.specs.Member.{member, setOf}
+use Rattle.sets.proofs.SetOf.{in-set}
 use Rattle.table.specs.Table.{Table, tableOf, nodeAt}
 use Rattle.table.specs.Facts.{Wellformed, Packed}
 use Rattle.table.proofs.Accepted.{accepted}
@@ -25,7 +26,6 @@ use Rattle.closure.specs.Setting.{netOf, Setting}
 use Rattle.closure.specs.Advance.{Advance}
 use Rattle.closure.specs.Sweep.{keptStep, nodeStep, nodeLook, nodeVisit, nodesFrom, startsStep, sweep}
 use Rattle.closure.proofs.Advances.{Advances, advance-so, advance-then, advance-failing, advance-each, advance-ordered, quiet-parts, quiet-still}
-use Rattle.closure.proofs.RowLaws.{set-true}
 use Rattle.closure.proofs.Visits.{visit-resting, visit-node}
 use Rattle.closure.proofs.KeptAdvance.{kept-advance, start-advance}
 use Rattle.closure.proofs.NodeAdvance.{NodeRest, Resting, none-rest, node-advance}
@@ -64,7 +64,7 @@ module _ (table : List ℕ) (net : Net) (targets bases : List ℕ) (setting : Se
         go true e a j l m = ⊎-elim
             (λ r. subst (λ (N : Memory). NodeRest T j (operatorOf (nodeAt T j)) (knowledge T N)) (sym (a .unchanged (quiet-parts (s .report) e .0))) (rest j l r))
             (λ same. subst (λ (k : ℕ). NodeRest T k (operatorOf (nodeAt T k)) (knowledge T (s .memory))) (sym (eqb-true j i same)) (quiet-still a e))
-            (or-parts (member resting j) (eqb j i) (set-true 32 _ j .0 m .1))
+            (or-parts (member resting j) (eqb j i) (in-set 32 _ j .0 m .1))
         go false e a j l m = none-rest T (knowledge T (s .memory)) j l m
 
     visit : Visits (nodeVisit table (netOf T) targets bases down i resting M)

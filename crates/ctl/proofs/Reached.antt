@@ -37,6 +37,11 @@ source-next T list s t = (
   λ h. let r = next-kept-step T list s t h in step-ends t s (Memᴰ·map turned (r .1)) (r .3) (r .2),
 )
 
+-- a kept step leads on
+pub reached-on : (T : Table) (list : List ℕ) (s t : ℕ) → Reached T list s → Next T list s t → Reached T list t
+unfolding ReachedIn
+reached-on T list s t r h = (suc (r .0), (s, r .1, h))
+
 module _ (T : Table) (wf : Wellformed T) (list : List ℕ) where
   -- a set of states, with the kept initial ones and those that a kept step leads to from it
   abbrev grown : List Bool → List Bool
@@ -51,11 +56,6 @@ module _ (T : Table) (wf : Wellformed T) (list : List ℕ) where
       let h = rw length-tabulate at (has-inside (startSet T list) s e) in
       let r = initial-kept T list s .0 (sym (start-mark s h) ∙ e) in
       ((h, r .0), r .1)
-
-  -- a kept step leads on
-  pub reached-on : (s t : ℕ) → Reached T list s → Next T list s t → Reached T list t
-  unfolding ReachedIn
-  reached-on s t r h = (suc (r .0), (s, r .1, h))
 
   -- what is in level m is reached by at most m steps
   level-reached : (m s : ℕ) → has (iterate grown (startSet T list) m) s ≡ true → (k : ℕ) × (k ≤ m) × ReachedIn T list k s

@@ -74,7 +74,7 @@ module _ (T : Table) (wf : Wellformed T) (list : List ℕ) where
   still-reached (suc k) t r = (r .0, still-reached k (r .0) (r .1), reached-left (r .0) t (k, r .1) (r .2))
 
   agree : Agree (Reached T list) (Next T list) (Next T (strike T list))
-  agree = record { there = reached-left; back = λ s t r h. left-reached s t h .0; stays = λ s t r h. reached-on T wf list s t r h }
+  agree = record { there = reached-left; back = λ s t r h. left-reached s t h .0; stays = reached-on T list }
 
   narrow : Repair T list → NarrowRepair T (strike T list)
   narrow R = record {
@@ -83,7 +83,7 @@ module _ (T : Table) (wf : Wellformed T) (list : List ℕ) where
         size = strike-length T list;
         bits = λ j h. let l = rw (strike-length T list) at h in rw (strike-at T list j l) (bit-or-0 (isReached T list (stepAt T j .from)) _ (R .form .bits j (rw (R .form .size) l)));
       };
-      total = λ s t h. let l = left-reached s t h in kept-left t (reached-on T wf list s t (l .1) (l .0)) (R .total s t (l .0));
+      total = λ s t h. let l = left-reached s t h in kept-left t (reached-on T list s t (l .1) (l .0)) (R .total s t (l .0));
       starts = let r = R .starts in (r .0, r .1, kept-left (r .0) (start (r .0) (r .1) (r .2)) (r .2));
       rule = λ s i k. let k′ = left-kept s k in same-meaning agree (Labelled T) (formula T (rootIndex T)) s (start s i k′) (R .rule s i k′);
     };

@@ -5,7 +5,7 @@ use mathlib.Core.Bool.{Bool, true, false, not, _&&_, _||_, true≢false}
 use mathlib.Core.Logic.{_↔_, _⊎_, inl, inr, ⊎-elim}
 use mathlib.Core.List.{List}
 use native.Mathlib.Decide.{ℕ-discrete}
-use borrow.Author.Tests.{eq-eqb, ne-eqb}
+use borrow.Author.Tests.{eq-eqb, ne-eqb, not-true}
 use lib.Dec.{eqb}
 use lib.ListN.{getD}
 use Rattle.sets.specs.Member.{member, setOf, countOf, lowestOf}
@@ -14,10 +14,6 @@ use Rattle.sets.proofs.SetOf.{in-set, setOf-lt, countOf-less, lowestOf-has}
 use Rattle.table.proofs.Bools.{and-parts, parts-and, or-parts, or-left, or-right, not-so}
 use Rattle.label.proofs.Lowest.{lowest-below}
 use Rattle.judge.specs.Reached.{Closed, Least}
-
-not-true-is : (b : Bool) → not b ≡ true → b ≡ false
-not-true-is true e = sym e
-not-true-is false e = refl
 
 -- some states are reached, and of some of these the next states are still left to add
 pub record Looked (rows : List ℕ) (starts reached left : ℕ) : Type 0 where
@@ -69,7 +65,7 @@ module _ (rows : List ℕ) (starts reached left s : ℕ) (k : Looked rows starts
 
   in-new : (t : ℕ) → (member new t ≡ true) ↔ ((t < 32) × (member (getD rows s 0) t ≡ true) × (member reached t ≡ false))
   in-new t = (
-    λ e. let r = in-set 32 _ t .0 e in let p = and-parts (member (getD rows s 0) t) _ (r .1) in (r .0, p .0, not-true-is _ (p .1)),
+    λ e. let r = in-set 32 _ t .0 e in let p = and-parts (member (getD rows s 0) t) _ (r .1) in (r .0, p .0, not-true _ (p .1)),
     λ r. in-set 32 _ t .1 (r .0, parts-and (member (getD rows s 0) t) _ (r .1) (ap not (r .2))),
   )
 
@@ -89,7 +85,7 @@ module _ (rows : List ℕ) (starts reached left s : ℕ) (k : Looked rows starts
   in-without : (t : ℕ) → member (without left s) t ≡ true → (member left t ≡ true) × ¬ (t ≡ s)
   in-without t e =
       let p = and-parts (member left t) _ (in-set 32 _ t .0 e .1) in
-      (p .0, λ q. true≢false (sym (eq-eqb t s q) ∙ not-true-is _ (p .1)))
+      (p .0, λ q. true≢false (sym (eq-eqb t s q) ∙ not-true _ (p .1)))
 
   without-in : (t : ℕ) → member left t ≡ true → ¬ (t ≡ s) → member (without left s) t ≡ true
   without-in t e d = in-set 32 _ t .1 (member-inside 32 left t (k .left-small) e, parts-and (member left t) _ e (ap not (ne-eqb t s d)))
@@ -125,14 +121,14 @@ module _ (rows : List ℕ) (starts reached left s : ℕ) (k : Looked rows starts
     where
       sub : (t : ℕ) → t < 32 → unlooked (with reached new) (with (without left s) new) t ≡ true → unlooked reached left t ≡ true
       sub t l e = ⊎-elim
-          (λ q. or-left (not (member reached t)) (member left t) (ap not (not-so (member reached t) (λ r. true≢false (sym (still t r) ∙ not-true-is _ q)))))
+          (λ q. or-left (not (member reached t)) (member left t) (ap not (not-so (member reached t) (λ r. true≢false (sym (still t r) ∙ not-true _ q)))))
           (λ q. ⊎-elim (λ w. or-right (not (member reached t)) (member left t) (in-without t w .0))
           (λ n. or-left (not (member reached t)) (member left t) (ap not (in-new t .0 n .2))) (in-with (without left s) new t q))
           (or-parts (not (member (with reached new) t)) _ e)
 
       gone : unlooked (with reached new) (with (without left s) new) s ≡ false
       gone = not-so _ (λ e. ⊎-elim
-          (λ q. true≢false (sym (still s (k .inside s here)) ∙ not-true-is _ q))
+          (λ q. true≢false (sym (still s (k .inside s here)) ∙ not-true _ q))
           (λ q. ⊎-elim (λ w. in-without s w .1 refl) (λ n. true≢false (sym (k .inside s here) ∙ in-new s .0 n .2)) (in-with (without left s) new s q))
           (or-parts (not (member (with reached new) s)) _ e))
 

@@ -52,7 +52,7 @@ module _ (T : Table) (wf : Wellformed T) (list rows : List ℕ) (rows-are : rows
     begins = λ s e. let r = in-starts s .0 e in in-set 32 _ s .1 (state-below s (r .0 .0), is-reached T wf list s .1 (zero, r));
     goes-on = λ s t l e row.
         let r = in-set 32 (isReached T list) s .0 e in
-        in-set 32 _ t .1 (l, is-reached T wf list t .1 (reached-on T wf list s t (is-reached T wf list s .0 (r .1)) (row-next s t (r .0) l .0 row)));
+        in-set 32 _ t .1 (l, is-reached T wf list t .1 (reached-on T list s t (is-reached T wf list s .0 (r .1)) (row-next s t (r .0) l .0 row)));
   }
 
   -- and each closed set has them

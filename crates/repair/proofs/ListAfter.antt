@@ -4,7 +4,7 @@ use mathlib.Core.Path.{_≡_, sym, ap, _∙_}
 use mathlib.Core.List.{List, _++_}
 use native.Mathlib.Omega.{arith}
 use lib.ListN.{length, take, drop}
-use lib.Seq.{take-append-seam, drop-append-seam}
+use lib.Seq.{take-at, drop-at}
 use Rattle.table.specs.Table.{Table}
 use Rattle.ctl.specs.Reached.{strike}
 use Rattle.search.specs.declared.outcome.Outcome.the-variants.{Found, None, Spent}
@@ -14,20 +14,14 @@ use Rattle.search.specs.Answer.{outcomeOf, listAfter}
 use Rattle.repair.specs.Outcome.{writtenAfter}
 use Rattle.repair.proofs.Listed.{list-size}
 
--- the front of a list whose first part has e bytes, and the rest
-front-of : (xs rest : List ℕ) (e : ℕ) → length xs ≡ e → (take e (xs ++ rest) ≡ xs) × (drop e (xs ++ rest) ≡ rest)
-front-of xs rest e size = (
-  ap (λ (k : ℕ). take k (xs ++ rest)) (sym size) ∙ take-append-seam xs rest,
-  ap (λ (k : ℕ). drop k (xs ++ rest)) (sym size) ∙ drop-append-seam xs rest,
-)
-
 module _ (T : Table) (list after : List ℕ) where
   -- found: the first e bytes are struck
   pub after-found : (o : Outcome) (c e : ℕ) → Found c ≡ outcomeOf o → after ≡ listAfter T o list → e ≡ length (T .steps)
       → (front : List ℕ) → front ≡ strike T (take e after) → front ++ drop e after ≡ writtenAfter T o list
   after-found (found m k) c e same is here front struck =
-      let p = front-of (listOf T m) (drop (length (T .steps)) list) e (list-size T m ∙ sym here) in
-      (λ j. (struck ∙ ap (strike T) (ap (take e) is ∙ p .0)) j ++ (ap (drop e) is ∙ p .1) j)
+      let rest = drop (length (T .steps)) list in
+      let size = list-size T m ∙ sym here in
+      (λ j. (struck ∙ ap (strike T) (ap (take e) is ∙ take-at (listOf T m) rest e size)) j ++ (ap (drop e) is ∙ drop-at (listOf T m) rest e size) j)
   after-found (none k) c e same is here front struck = absurd (let z : _≡_ {A = ℕ} 0 1 = cc in omega arith)
   after-found (spent k) c e same is here front struck = absurd (let z : _≡_ {A = ℕ} 0 1 = cc in omega arith)
 

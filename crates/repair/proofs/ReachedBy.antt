@@ -4,7 +4,6 @@ use mathlib.Core.Path.{_≡_, sym, ap, _∙_}
 use mathlib.Core.Bool.{true, _&&_}
 use mathlib.Core.List.{List}
 use native.Mathlib.Omega.{arith}
-use borrow.Author.Tests.{eqb-true, eq-eqb}
 use lib.ListN.{length}
 use Rattle.sets.specs.Member.{member, setOf}
 use Rattle.sets.proofs.SetOf.{in-set, setOf-lt, setOf-unique}
@@ -17,6 +16,7 @@ use Rattle.ctl.specs.Reached.{isReached}
 use Rattle.ctl.proofs.Targets.{is-kept}
 use Rattle.ctl.proofs.Reached.{is-reached, reached-soon}
 use Rattle.closure.specs.Rest.{initialSet}
+use Rattle.closure.proofs.InitialSet.{initial-true}
 use Rattle.repair.specs.Round.{Round}
 
 pub record ReachedBy (T : Table) (list : List ℕ) (m reached : ℕ) : Type 0 where
@@ -32,15 +32,14 @@ module _ (T : Table) (wf : Wellformed T) (list : List ℕ) where
     small = setOf-lt 32 _;
     sound = λ s m.
         let p = and-parts (member (initialSet T) s) _ (in-set 32 _ s .0 m .1) in
-        let i = in-set (length (T .states)) _ s .0 (p .0) in
-        (zero, ((i .0, eqb-true _ 1 (i .1)), is-kept T list s .0 (in-set 32 _ s .0 (p .1) .1)));
+        (zero, (initial-true T s .0 (p .0), is-kept T list s .0 (in-set 32 _ s .0 (p .1) .1)));
     soon = first;
   })
     where
       first : (k s : ℕ) → k ≤ 0 → ReachedIn T list k s → member (setOf 32 (λ t. member (initialSet T) t && member (setOf 32 (isKept T list)) t)) s ≡ true
       first zero s h r =
           let l : s < 32 = omega (arith, r .0 .0, wf .few-states) in
-          in-set 32 _ s .1 (l, parts-and (member (initialSet T) s) _ (in-set (length (T .states)) _ s .1 (r .0 .0, eq-eqb _ 1 (r .0 .1))) (in-set 32 _ s .1 (l, is-kept T list s .1 (r .1))))
+          in-set 32 _ s .1 (l, parts-and (member (initialSet T) s) _ (initial-true T s .1 (r .0)) (in-set 32 _ s .1 (l, is-kept T list s .1 (r .1))))
       first (suc k) s h r = absurd (omega arith)
 
   -- one round more

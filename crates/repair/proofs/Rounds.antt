@@ -1,33 +1,24 @@
 -- What a pass over the steps of a list has done before step j: the kept states, and a round of reaching.
 use Prim.Native.Nat.{ℕ, _+_, _^_, _≤_, _<_}
 use mathlib.Core.Path.{_≡_, refl, sym, _∙_}
-use mathlib.Core.Bool.{true, false, _&&_, _||_, false≢true}
+use mathlib.Core.Bool.{true, _&&_, _||_, false≢true}
 use mathlib.Core.Logic.{⊎-elim}
 use mathlib.Core.List.{List}
-use native.Mathlib.Decide.{ℕ-discrete}
 use native.Mathlib.Omega.{arith}
 use borrow.Author.Tests.{eqb-true, eq-eqb}
+use borrow.Author.Count.{below-more}
 use lib.Dec.{eqb}
 use lib.ListN.{length, getD}
 use Rattle.sets.specs.Member.{member, setOf}
 use Rattle.sets.proofs.Laws.{member-zero, member-inside}
 use Rattle.sets.proofs.SetOf.{in-set, setOf-lt, setOf-unique}
 use Rattle.table.specs.Table.{Table, stepAt}
-use Rattle.table.specs.Facts.{Wellformed}
 use Rattle.table.proofs.Bools.{and-parts, parts-and, or-parts, or-left, or-right, same-test}
 use Rattle.ctl.specs.Kept.{Next, Kept, Reached}
 use Rattle.ctl.specs.Labels.{isKept}
 use Rattle.ctl.proofs.Targets.{is-kept}
 use Rattle.ctl.proofs.Reached.{reached-on}
 use Rattle.repair.specs.Round.{Round}
-
--- what holds of each step before j + 1: it holds of those before j, and of the one at j
-pub up-to : (P : ℕ → Type 0) (j : ℕ) → ((i : ℕ) → i < j → P i) → P j → (i : ℕ) → i < j + 1 → P i
-up-to P j before at i h = go (ℕ-discrete i j)
-  where
-    go : Dec (i ≡ j) → P i
-    go (yes e) = rw e at
-    go (no d) = before i (omega (arith, d))
 
 next-at : (T : Table) (list : List ℕ) (j : ℕ) → j < length (T .steps) → getD list j 0 ≡ 1 → Next T list (stepAt T j .from) (stepAt T j .to)
 next-at T list j h k = record { step = j; listed = h; kept = k; leaves = refl; enters = refl }
@@ -53,7 +44,7 @@ module _ (T : Table) (list : List ℕ) (j kept : ℕ) (b : KeptBefore T list j k
   kept-with h one l k e = rw e (record {
     small = setOf-lt 32 _;
     sound = λ s m. ⊎-elim (b .sound s) (λ q. rw (eqb-true s (stepAt T j .from) q) (stepAt T j .to, next-at T list j h one)) (or-parts (member kept s) _ (in-set 32 _ s .0 m .1));
-    all = up-to (λ i. getD list i 0 ≡ 1 → member _ (stepAt T i .from) ≡ true) j
+    all = below-more (λ i. getD list i 0 ≡ 1 → member _ (stepAt T i .from) ≡ true) j
         (λ i l′ o. let m = b .all i l′ o in in-set 32 _ _ .1 (member-inside 32 kept _ (b .small) m, or-left (member kept _) _ m))
         (λ o. in-set 32 _ _ .1 (l, or-right (member kept _) _ (eq-eqb (stepAt T j .from) _ refl)));
   })
@@ -62,7 +53,7 @@ module _ (T : Table) (list : List ℕ) (j kept : ℕ) (b : KeptBefore T list j k
   kept-without d = record {
     small = b .small;
     sound = b .sound;
-    all = up-to (λ i. getD list i 0 ≡ 1 → member kept (stepAt T i .from) ≡ true) j (b .all) (λ o. absurd (d o));
+    all = below-more (λ i. getD list i 0 ≡ 1 → member kept (stepAt T i .from) ≡ true) j (b .all) (λ o. absurd (d o));
   }
 
 pub kept-all : (T : Table) (list : List ℕ) (j kept : ℕ) → KeptBefore T list j kept → length (T .steps) ≤ j → kept ≡ setOf 32 (isKept T list)
@@ -87,18 +78,18 @@ round-none T list set small = record {
   no-other = λ all. all;
 }
 
-module _ (T : Table) (wf : Wellformed T) (list : List ℕ) (set j next : ℕ) (b : RoundBefore T list set j next) where
+module _ (T : Table) (list : List ℕ) (set j next : ℕ) (b : RoundBefore T list set j next) where
   pub round-with : j < length (T .steps) → getD list j 0 ≡ 1 → stepAt T j .to < 32 → (k : ℕ)
       → k ≡ setOf 32 (λ t. member next t || (member next (stepAt T j .from) && eqb t (stepAt T j .to))) → RoundBefore T list set (j + 1) k
   round-with h one l k e = rw e (record {
     small = setOf-lt 32 _;
     has-set = λ s m. still s (b .has-set s m);
-    has-ends = up-to (λ i. getD list i 0 ≡ 1 → member set (stepAt T i .from) ≡ true → member _ (stepAt T i .to) ≡ true) j
+    has-ends = below-more (λ i. getD list i 0 ≡ 1 → member set (stepAt T i .from) ≡ true → member _ (stepAt T i .to) ≡ true) j
         (λ i l′ o m. still _ (b .has-ends i l′ o m))
         (λ o m. in-set 32 _ _ .1 (l, or-right (member next _) _ (parts-and _ _ (b .has-set _ m) (eq-eqb (stepAt T j .to) _ refl))));
     no-other = λ all s m. ⊎-elim (b .no-other all s)
         (λ q. let p = and-parts (member next (stepAt T j .from)) _ q in
-        rw (eqb-true s (stepAt T j .to) (p .1)) (reached-on T wf list _ _ (b .no-other all _ (p .0)) (next-at T list j h one)))
+        rw (eqb-true s (stepAt T j .to) (p .1)) (reached-on T list _ _ (b .no-other all _ (p .0)) (next-at T list j h one)))
         (or-parts (member next s) _ (in-set 32 _ s .0 m .1));
   })
     where
@@ -109,7 +100,7 @@ module _ (T : Table) (wf : Wellformed T) (list : List ℕ) (set j next : ℕ) (b
   round-without d = record {
     small = b .small;
     has-set = b .has-set;
-    has-ends = up-to (λ i. getD list i 0 ≡ 1 → member set (stepAt T i .from) ≡ true → member next (stepAt T i .to) ≡ true) j (b .has-ends) (λ o. absurd (d o));
+    has-ends = below-more (λ i. getD list i 0 ≡ 1 → member set (stepAt T i .from) ≡ true → member next (stepAt T i .to) ≡ true) j (b .has-ends) (λ o. absurd (d o));
     no-other = b .no-other;
   }
 

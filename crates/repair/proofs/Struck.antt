@@ -4,12 +4,12 @@ use mathlib.Core.Path.{_≡_, refl, sym, ap, _∙_}
 use mathlib.Core.Bool.{Bool, true, false, cond}
 use mathlib.Core.List.{List}
 use native.Mathlib.Omega.{arith}
+use borrow.Author.Count.{below-more}
 use lib.ListN.{length, getD, set, length-set}
 use lib.Seq.{ext-getD, getD-set-same, getD-set-other}
 use Rattle.table.specs.Table.{Table, stepAt}
 use Rattle.ctl.specs.Reached.{isReached, strike}
 use Rattle.ctl.proofs.Strike.{strike-length, strike-at}
-use Rattle.repair.proofs.Rounds.{up-to}
 
 -- the bytes of the steps before j are those of the struck list, and the others are as they were
 pub record StruckBefore (T : Table) (list : List ℕ) (j : ℕ) (now : List ℕ) : Type 0 where
@@ -28,7 +28,7 @@ module _ (T : Table) (list : List ℕ) (j : ℕ) (now : List ℕ) (b : StruckBef
   pub struck-not : isReached T list (stepAt T j .from) ≡ true → StruckBefore T list (j + 1) now
   struck-not e = record {
     size = b .size;
-    before = up-to (λ i. getD now i 0 ≡ getD (strike T list) i 0) j (b .before) (b .behind j (omega arith) ∙ sym (at-j true e));
+    before = below-more (λ i. getD now i 0 ≡ getD (strike T list) i 0) j (b .before) (b .behind j (omega arith) ∙ sym (at-j true e));
     behind = λ i h. b .behind i (omega arith);
   }
 
@@ -36,7 +36,7 @@ module _ (T : Table) (list : List ℕ) (j : ℕ) (now : List ℕ) (b : StruckBef
   pub struck-at : isReached T list (stepAt T j .from) ≡ false → j < length list → StruckBefore T list (j + 1) (set now j 0)
   struck-at e h = record {
     size = length-set now j 0 ∙ b .size;
-    before = up-to (λ i. getD (set now j 0) i 0 ≡ getD (strike T list) i 0) j
+    before = below-more (λ i. getD (set now j 0) i 0 ≡ getD (strike T list) i 0) j
         (λ i l. getD-set-other now j i 0 0 (λ q. absurd (omega (arith, q))) ∙ b .before i l)
         (getD-set-same now j 0 0 (omega (arith, b .size)) ∙ sym (at-j false e));
     behind = λ i l. getD-set-other now j i 0 0 (λ q. absurd (omega (arith, q))) ∙ b .behind i (omega arith);

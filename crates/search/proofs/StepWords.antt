@@ -9,10 +9,10 @@ use borrow.Author.Tests.{lt-ltb, eq-eqb, eqb-true}
 use lib.Dec.{eqb, ltb}
 use lib.ListN.{getD}
 use Rattle.sets.specs.Member.{member, setOf}
+use Rattle.sets.proofs.Laws.{member-inside}
 use Rattle.sets.proofs.SetOf.{member-setOf}
 use Rattle.rows.specs.Row.{known}
 use Rattle.rows.specs.Words.{rowAt, stepPlace}
-use Rattle.closure.proofs.RowLaws.{member-below}
 use Rattle.search.specs.StepRows.{wordOf}
 
 -- those of the states below 32 are the first 64
@@ -49,7 +49,7 @@ module _ (w to : ℕ) where
   more-has t h e = member-setOf 32 _ t ∙ and-eq-true-iff (ltb t 32) (member w t || eqb t to) .1 (lt-ltb t 32 h, e)
 
   pub more-keeps : w < 2 ^ 32 → (t : ℕ) → member w t ≡ true → member more t ≡ true
-  more-keeps small t e = more-has t (member-below w t small e) (ap (λ (b : Bool). b || eqb t to) e)
+  more-keeps small t e = more-has t (member-inside 32 w t small e) (ap (λ (b : Bool). b || eqb t to) e)
 
   pub more-new : to < 32 → member more to ≡ true
   more-new h = more-has to h (or-eq-true-iff (member w to) (eqb to to) .1 (Or·inr (eq-eqb to to refl)))

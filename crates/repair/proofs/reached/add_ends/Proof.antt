@@ -8,7 +8,7 @@ use lib.ListN.{length}
 use denote.Ref.{now}
 use Rattle.table.specs.declared.record.Step.{Step}
 use Rattle.table.specs.Table.{tableOf}
-use Rattle.table.proofs.Accepted.{accepted, read-step}
+use Rattle.table.proofs.Accepted.{read-step}
 use Rattle.repair.proofs.Rounds.{RoundBefore, round-none, round-with, round-without, round-all}
 use Rattle.repair.proofs.reached.add_ends.Statement.{statement}
 use Rattle.repair.proofs.reached.add_ends.Tie as tie
@@ -49,7 +49,6 @@ loop-again c =
     let table = now (start .args .table) in
     let list = now (start .args .list) in
     let T = tableOf table in
-    let wf = accepted table (start .pre .0) .table in
     let l = c .before .before .before .loop in
     let part = c .before .before .before .before .steps-part in
     let inside : l .j < length (T .steps) = omega (arith, start .pre .1, c .before .before .loop-test .taken) in
@@ -58,9 +57,9 @@ loop-again c =
     (λ w.
     let x = w .1 .result in
     let r = read-step table (start .pre .0) (l .j) inside (now (part .result)) (part .ensures) x (w .1 .ensures) in
-    rw (w .4) (round-with T wf list (start .args .set) (l .j) (l .next) (l .inv .1) inside (w .0 .taken) (rw (ap (λ (y : Step). y .to) (r .here)) at (r .to-below)) (w .3 .result)
+    rw (w .4) (round-with T list (start .args .set) (l .j) (l .next) (l .inv .1) inside (w .0 .taken) (rw (ap (λ (y : Step). y .to) (r .here)) at (r .to-below)) (w .3 .result)
     (rw (w .2 .ensures, r .here) at (w .3 .ensures))))
-    (λ w. rw (w .1) (round-without T wf list (start .args .set) (l .j) (l .next) (l .inv .1) (w .0 .left)))
+    (λ w. rw (w .1) (round-without T list (start .args .set) (l .j) (l .next) (l .inv .1) (w .0 .left)))
     (c .if1 .came) in
     (omega arith, more)
 
