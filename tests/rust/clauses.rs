@@ -1,6 +1,6 @@
 // Repair's search a second time, in the plain way: the net as explicit clauses, and the search over them with a counter for each clause and a
-// trail to undo. The list that it finds is the one before striking. Written from the scope's text and A1 of document 02; it has nothing of the
-// library.
+// trail to undo. The list that it finds is the one before striking. Written from the scope's text and A1 and A4 of document 02; it has nothing of
+// the library.
 #![allow(dead_code)]
 
 // A literal is twice its variable's number, and one more where it is the opposite. Steps are the first variables.
@@ -10,6 +10,8 @@ type Literal = usize;
 pub struct Net {
     pub steps: usize,
     pub variables: usize,
+    // what it costs to strike each step
+    prices: Vec<u32>,
     starts: Vec<u32>,
     literals: Vec<u32>,
 }
@@ -68,14 +70,15 @@ impl Net {
 pub fn net(table: &[u8]) -> Net {
     let (n, e) = (table[0] as usize, table[1] as usize);
     let (states, rest) = table[4..].split_at(3 * n);
-    let (steps, nodes) = rest.split_at(2 * e);
+    let (steps, nodes) = rest.split_at(3 * e);
     let initial: Vec<usize> = (0..n).filter(|s| states[3 * s] == 1).collect();
     let label = |s: usize, p: u8| (states[3 * s + 1] as u32 + 256 * states[3 * s + 2] as u32) >> p & 1 == 1;
-    let ends = (0..e).map(|j| steps[2 * j + 1] as usize).collect();
-    let out = (0..n).map(|s| (0..e).filter(|j| steps[2 * j] as usize == s).collect()).collect();
+    let prices = (0..e).map(|j| steps[3 * j + 2] as u32).collect();
+    let ends = (0..e).map(|j| steps[3 * j + 1] as usize).collect();
+    let out = (0..n).map(|s| (0..e).filter(|j| steps[3 * j] as usize == s).collect()).collect();
     let steps = Steps { ends, out };
 
-    let mut net = Net { steps: e, variables: e, starts: vec![0], literals: vec![] };
+    let mut net = Net { steps: e, variables: e, prices, starts: vec![0], literals: vec![] };
     let kept: Vec<Literal> = steps.out.iter().map(|out| net.gate(false, &out.iter().map(|j| 2 * j).collect::<Vec<_>>())).collect();
     let mut x: Vec<Vec<Literal>> = vec![];
     for node in nodes.chunks(3) {
@@ -113,15 +116,12 @@ struct Search<'a> {
     holds: Vec<bool>,
     trail: Vec<Literal>,
     done: usize,
+    // of the steps that the trail has as struck
+    price: u32,
     cap: u64,
     choices: u64,
-}
-
-#[derive(PartialEq)]
-enum End {
-    Found,
-    Failed,
-    Spent,
+    // the cheapest find so far, with its price
+    cheapest: Option<(u32, Vec<u8>)>,
 }
 
 impl<'a> Search<'a> {
@@ -144,12 +144,19 @@ impl<'a> Search<'a> {
             }
         }
         let left = net.starts.windows(2).map(|w| w[1] - w[0]).collect();
-        Search { net, firsts, holders, left, holds: vec![false; 2 * net.variables], trail: vec![], done: 0, cap, choices: 0 }
+        let holds = vec![false; 2 * net.variables];
+        Search { net, firsts, holders, left, holds, trail: vec![], done: 0, price: 0, cap, choices: 0, cheapest: None }
+    }
+
+    // What a literal costs: its price where it strikes a step.
+    fn cost(&self, l: Literal) -> u32 {
+        if l % 2 == 1 && l / 2 < self.net.steps { self.net.prices[l / 2] } else { 0 }
     }
 
     fn add(&mut self, l: Literal) {
         self.holds[l] = true;
         self.trail.push(l);
+        self.price += self.cost(l);
     }
 
     // Adds the one literal left of a clause; false where all are contradicted.
@@ -183,6 +190,7 @@ impl<'a> Search<'a> {
         while self.trail.len() > mark {
             let l = self.trail.pop().unwrap();
             self.holds[l] = false;
+            self.price -= self.cost(l);
             if self.trail.len() < self.done {
                 for k in self.firsts[l ^ 1]..self.firsts[(l ^ 1) + 1] {
                     self.left[self.holders[k as usize] as usize] += 1;
@@ -192,28 +200,29 @@ impl<'a> Search<'a> {
         self.done = self.done.min(mark);
     }
 
-    // The steps before `from` are settled.
-    fn search(&mut self, from: usize) -> End {
-        if !self.close() {
-            return End::Failed;
+    // Tries everything from here on and keeps the cheapest find; false where the choices are spent before. The steps before `from` are settled.
+    // What costs as much as a find fails, so of finds at one price the first stays.
+    fn search(&mut self, from: usize) -> bool {
+        if !self.close() || self.cheapest.as_ref().is_some_and(|(price, _)| self.price >= *price) {
+            return true;
         }
         let Some(step) = (from..self.net.steps).find(|&j| !self.holds[2 * j] && !self.holds[2 * j + 1]) else {
-            return End::Found;
+            self.cheapest = Some((self.price, (0..self.net.steps).map(|j| self.holds[2 * j] as u8).collect()));
+            return true;
         };
         let mark = self.trail.len();
         for l in [2 * step, 2 * step + 1] {
             if self.choices == self.cap {
-                return End::Spent;
+                return false;
             }
             self.choices += 1;
             self.undo(mark);
             self.add(l);
-            let end = self.search(step + 1);
-            if end != End::Failed {
-                return end;
+            if !self.search(step + 1) {
+                return false;
             }
         }
-        End::Failed
+        true
     }
 }
 
@@ -221,21 +230,21 @@ impl<'a> Search<'a> {
 pub struct Answer {
     pub number: u32,
     pub choices: u64,
+    pub price: u32,
     pub list: Vec<u8>,
 }
 
-// 0 and the list, 14 or 15.
+// 0, the list and its price; or 14 or 15, with no list and the price 0.
 pub fn search(net: &Net, cap: u64) -> Answer {
     let mut search = Search::new(net, cap);
     let units: Vec<usize> = (0..search.left.len()).filter(|&c| search.left[c] == 1).collect();
-    let end = if units.iter().all(|&c| search.unit(c)) { search.search(0) } else { End::Failed };
-    let number = match end {
-        End::Found => 0,
-        End::Failed => 14,
-        End::Spent => 15,
+    let ended = !units.iter().all(|&c| search.unit(c)) || search.search(0);
+    let (number, (price, list)) = match search.cheapest {
+        _ if !ended => (15, (0, vec![])),
+        Some(find) => (0, find),
+        None => (14, (0, vec![])),
     };
-    let list = if number == 0 { (0..net.steps).map(|j| search.holds[2 * j] as u8).collect() } else { vec![] };
-    Answer { number, choices: search.choices, list }
+    Answer { number, choices: search.choices, price, list }
 }
 
 pub fn repair(table: &[u8], cap: u64) -> Answer {

@@ -1,7 +1,11 @@
 // Runs the program fit on every vector of the files of sheets, on every example, and on inputs at the limits of reading, and compares what it
-// prints byte by byte. A vector: the text and the program's output in hex, `-` for no bytes. In the files after the word `unstruck` the output has
-// the list before striking: it is struck here.
+// prints byte by byte. A vector: the text, Read's number, and the program's output, texts in hex and `-` for no bytes. The files after the word
+// `unpriced` have no price: their steps get the price 0. In those after the word `unstruck` the output has the list before striking besides: it is
+// struck here.
+mod clauses;
+mod packing;
 mod striking;
+mod unpriced;
 
 use std::io::{Read, Write};
 use std::process::{Command, Stdio};
@@ -9,6 +13,9 @@ use std::time::Duration;
 
 const REFUSED_1: &[u8] = b"answer number\nrefused 1\n";
 const REFUSED_3: &[u8] = b"answer number\nrefused 3\n";
+
+// The program's own.
+const CAP: u64 = 1_000_000;
 
 struct Tally {
     program: String,
@@ -60,7 +67,7 @@ fn unhex(s: &str) -> Vec<u8> {
 fn struck(sheet: &[u8], output: Vec<u8>) -> Vec<u8> {
     let (sheet, text) = (String::from_utf8_lossy(sheet), String::from_utf8(output).expect("an output"));
     let Some((head, rows)) = text.split_once("from to kept\n") else { return text.into_bytes() };
-    let initial: Vec<bool> = sheet.lines().skip(3).take_while(|&line| line != "from to").map(|line| line.starts_with("1 ")).collect();
+    let initial: Vec<bool> = sheet.lines().skip(3).take_while(|&line| line != "from to price").map(|line| line.starts_with("1 ")).collect();
     let rows: Vec<Vec<usize>> = rows.lines().map(|row| row.split(' ').map(|x| x.parse().expect("a number")).collect()).collect();
     let steps: Vec<(usize, usize)> = rows.iter().map(|row| (row[0], row[1])).collect();
     let list: Vec<u8> = rows.iter().map(|row| row[2] as u8).collect();
@@ -71,11 +78,24 @@ fn struck(sheet: &[u8], output: Vec<u8>) -> Vec<u8> {
     struck.into_bytes()
 }
 
-fn run_file(t: &mut Tally, file: &str, unstruck: bool) {
+// The output with the price 0. What was found is found still, but the search goes on behind it, and the plain search says how far. Without choices
+// the output stays.
+fn priced(sheet: &[u8], output: Vec<u8>) -> Vec<u8> {
+    let text = String::from_utf8(output).expect("an output");
+    let Some(("answer choices", rest)) = text.split_once('\n') else { return text.into_bytes() };
+    let (answer, list) = rest.split_once('\n').expect("a second line");
+    let (word, choices) = answer.split_once(' ').expect("the choices");
+    let choices = if word == "found" { clauses::repair(&packing::packed(sheet), CAP).choices } else { choices.parse().expect("a number") };
+    format!("answer choices price\n{word} {choices} 0\n{list}").into_bytes()
+}
+
+fn run_file(t: &mut Tally, file: &str, unpriced: bool, unstruck: bool) {
     let text = std::fs::read_to_string(file).expect("the vectors");
     for (k, line) in text.lines().enumerate().skip(1) {
         let columns: Vec<&str> = line.split('\t').collect();
         let (sheet, output) = (unhex(columns[0]), unhex(columns[2]));
+        let sheet = if unpriced { unpriced::sheet(&sheet) } else { sheet };
+        let output = if unpriced { priced(&sheet, output) } else { output };
         let output = if unstruck { struck(&sheet, output) } else { output };
         t.check(&format!("{file}:{}", k + 1), &[&sheet], &output);
     }
@@ -83,8 +103,8 @@ fn run_file(t: &mut Tally, file: &str, unstruck: bool) {
 
 // A text of sheet form of exactly this length, with more states and steps than a table may have: read whole it is refused with 3.
 fn of_length(length: usize) -> Vec<u8> {
-    let names = ["states edges nodes props\n255 255 1 0\ninitial label\n", "from to\n", "kind a b\n1 0 0\n"];
-    let mut extra = length - names.iter().map(|n| n.len()).sum::<usize>() - 2 * 255 * 4;
+    let names = ["states edges nodes props\n255 255 1 0\ninitial label\n", "from to price\n", "kind a b\n1 0 0\n"];
+    let mut extra = length - names.iter().map(|n| n.len()).sum::<usize>() - 255 * 4 - 255 * 6;
     let mut digits = |most: usize| {
         let more = extra.min(most - 1);
         extra -= more;
@@ -96,7 +116,7 @@ fn of_length(length: usize) -> Vec<u8> {
     }
     text += names[1];
     for _ in 0..255 {
-        text += &format!("{} {}\n", digits(3), digits(3));
+        text += &format!("{} {} {}\n", digits(3), digits(3), digits(3));
     }
     text += names[2];
     assert_eq!(text.len(), length);
@@ -120,17 +140,19 @@ fn run_limits(t: &mut Tally, sheet: &[u8], output: &[u8]) {
 
 fn main() {
     let args: Vec<String> = std::env::args().collect();
-    let [_, program, examples, files @ ..] = &args[..] else { panic!("fit_sheets PROGRAM EXAMPLES VECTORS.. unstruck VECTORS..") };
+    let [_, program, examples, files @ ..] = &args[..] else { panic!("fit_sheets PROGRAM EXAMPLES VECTORS.. unpriced VECTORS.. unstruck VECTORS..") };
     let mut t = Tally { program: program.clone(), runs: 0, agreed: 0 };
     let mut failed = false;
-    let mut unstruck = false;
+    let (mut unpriced, mut unstruck) = (false, false);
     for file in files {
-        if file == "unstruck" {
-            unstruck = true;
-            continue;
+        match file.as_str() {
+            "unpriced" => unpriced = true,
+            "unstruck" => unstruck = true,
+            _ => {
+                run_file(&mut t, file, unpriced, unstruck);
+                t.report(file, &mut failed);
+            }
         }
-        run_file(&mut t, file, unstruck);
-        t.report(file, &mut failed);
     }
     for entry in std::fs::read_dir(examples).expect("the examples") {
         let path = entry.expect("an example").path();

@@ -14,11 +14,11 @@ mod plain {
         if n < 1 || n > 32 || e > 128 || f < 1 || f > 32 || p > 16 {
             return 3;
         }
-        if t.len() != 4 + 3 * n + 2 * e + 3 * f {
+        if t.len() != 4 + 3 * n + 3 * e + 3 * f {
             return 2;
         }
         let (states, rest) = t[4..].split_at(3 * n);
-        let (steps, nodes) = rest.split_at(2 * e);
+        let (steps, nodes) = rest.split_at(3 * e);
         let mut initial = false;
         for s in states.chunks(3) {
             if s[0] > 1 || (s[1] as usize + 256 * s[2] as usize) >> p != 0 {
@@ -31,7 +31,7 @@ mod plain {
         }
         let mut given = [0u32; 32];
         let mut repeated = false;
-        for x in steps.chunks(2) {
+        for x in steps.chunks(3) {
             if x[0] as usize >= n || x[1] as usize >= n {
                 return 6;
             }
@@ -101,9 +101,9 @@ mod plain {
             return 9;
         }
         let (states, rest) = t[4..].split_at(3 * n);
-        let (steps, nodes) = rest.split_at(2 * e);
+        let (steps, nodes) = rest.split_at(3 * e);
         let mut rows = [0u32; 32];
-        for (x, &b) in steps.chunks(2).zip(list) {
+        for (x, &b) in steps.chunks(3).zip(list) {
             if b == 1 {
                 rows[x[0] as usize] |= 1 << x[1];
             }
@@ -153,7 +153,7 @@ fn largest(random: &mut Random, kinds: u64) -> (Vec<u8>, Vec<u8>) {
     for s in 0..32u8 {
         let first = random.below(32) as u8;
         for k in 0..4 {
-            t.extend([s, (first + 7 * k) % 32]);
+            t.extend([s, (first + 7 * k) % 32, 8 * s + k]);
         }
     }
     for i in 0..32u64 {

@@ -2,9 +2,11 @@
 //
 // A line: table, list, Judge's number; Label's number and its words; Holding's number, how many states it gives, and the states. Words after the
 // count of lines say what an older file lacks. `ascending`: it is from before Holding had an order, and the states are put into reading order here.
-// `without-16`: it is from before the judge's 16, and where that comes in place of another number is worked out here.
+// `without-16`: it is from before the judge's 16, and where that comes in place of another number is worked out here. `unpriced`: its steps have no
+// price and get the price 0, on which none of the three calls depends.
 mod fitter;
 mod striking;
+mod unpriced;
 mod vectors;
 
 const GUARD: u32 = 0xA5A5A5A5;
@@ -50,9 +52,10 @@ fn with_16(table: &[u8], list: &[u8], number: u32) -> u32 {
     if tested && striking::strike_packed(table, list) != list { 16 } else { number }
 }
 
-fn line_agrees(columns: &[String], ascending: bool, without_16: bool) -> bool {
+fn line_agrees(columns: &[String], ascending: bool, without_16: bool, unpriced: bool) -> bool {
     let [table, list, judge, label, words, holding, count, states] = columns else { return false };
     let (table, list, states) = (vectors::bytes(table), vectors::bytes(list), vectors::bytes(states));
+    let table = if unpriced { unpriced::table(&table) } else { table };
     let states = if ascending { in_reading_order(&table, states) } else { states };
     let (judge, label, holding) = (vectors::number(judge), vectors::number(label), vectors::number(holding));
     let judge = if without_16 { with_16(&table, &list, judge) } else { judge };
@@ -63,6 +66,6 @@ fn line_agrees(columns: &[String], ascending: bool, without_16: bool) -> bool {
 }
 
 fn main() {
-    let [ascending, without_16] = vectors::flags(3, ["ascending", "without-16"]);
-    vectors::run("lists", |columns| line_agrees(columns, ascending, without_16))
+    let [ascending, without_16, unpriced] = vectors::flags(3, ["ascending", "without-16", "unpriced"]);
+    vectors::run("lists", |columns| line_agrees(columns, ascending, without_16, unpriced))
 }

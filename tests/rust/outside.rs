@@ -1,4 +1,4 @@
-// Compares all five calls of the library with a second reading of the scope's text and A1 to A3 of document 02, on drawn and damaged input, for
+// Compares all five calls of the library with a second reading of the scope's text and A1 to A4 of document 02, on drawn and damaged input, for
 // some seconds.
 // Arguments: seed (1), seconds (10). Prints how many calls agree, by kind and number; at the first difference its input, and ends with 1.
 mod clauses;
@@ -96,7 +96,7 @@ fn any_table(calls: &mut Calls, random: &mut Random, bytes: &[u8]) -> Result<(),
 fn sheets(calls: &mut Calls, random: &mut Random, draft: &Draft) -> Result<(), String> {
     let mut text = draft.sheet().into_bytes();
     let length = draft.pack().len();
-    for room in [repairing::room(random, length), repairing::room(random, 452)] {
+    for room in [repairing::room(random, length), repairing::room(random, 580)] {
         calls.read(random, &text, room)?;
     }
     scribble::text(random, &mut text);

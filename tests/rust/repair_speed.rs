@@ -164,6 +164,14 @@ fn steps(random: &mut Random, n: u64, e: u64) -> Vec<[u8; 2]> {
     steps
 }
 
+// The steps with a price for each. It has a sequence of its own. The seed says which of three sorts the prices are of: all the same, so that the
+// fewest steps are struck; a few different ones; or any.
+fn priced(seed: u64, steps: Vec<[u8; 2]>) -> Vec<u8> {
+    let mut random = Random::new(!seed);
+    let range = [(1, 1), (1, 9), (0, 255)][seed as usize / 3 % 3];
+    steps.iter().flat_map(|&[from, to]| [from, to, random.between(range) as u8]).collect()
+}
+
 // Draws a rule of so many nodes over so many propositions.
 type Draw = fn(&mut Random, u64, u64) -> Rule;
 
@@ -181,7 +189,7 @@ fn table(size: &Size, rules: [Draw; 3], seed: u64) -> Vec<u8> {
     for s in 0..n {
         t.extend([(s < initial) as u8, random.below(1 << size.props) as u8, 0]);
     }
-    t.extend(steps(&mut random, n, e).concat());
+    t.extend(priced(seed, steps(&mut random, n, e)));
     let rule = rules[seed as usize % 3](&mut random, f, size.props);
     t.extend(rule.0);
     t
@@ -218,7 +226,7 @@ fn largest(seed: u64) -> Vec<u8> {
     for s in 0..32 {
         t.extend([(s < 4) as u8, (s == 0 || random.below(2) == 1) as u8, 0]);
     }
-    t.extend(steps(&mut random, 32, 128).concat());
+    t.extend(priced(seed, steps(&mut random, 32, 128)));
     t.extend([2, 0, 0]);
     for i in 1..32 {
         t.extend([8 + random.below(2) as u8, random.below(i) as u8, random.below(i) as u8]);
@@ -235,10 +243,10 @@ struct Lent {
 }
 
 fn library(lent: &mut Lent, table: &[u8], cap: u64) -> clauses::Answer {
-    let mut choices = 0;
-    let number = fitter::repair(table, cap, &mut lent.list, &mut lent.bytes, &mut lent.words, &mut choices);
+    let (mut choices, mut price) = (0, 0);
+    let number = fitter::repair(table, cap, &mut lent.list, &mut lent.bytes, &mut lent.words, &mut choices, &mut price);
     let written = if number == 0 { table[1] as usize } else { 0 };
-    clauses::Answer { number, choices, list: lent.list[..written].to_vec() }
+    clauses::Answer { number, choices, price, list: lent.list[..written].to_vec() }
 }
 
 fn plain(table: &[u8], cap: u64) -> clauses::Answer {
@@ -282,25 +290,26 @@ fn groups() -> Vec<Group> {
             2, 7, 8, 14, 17, 20, 21, 24, 25, 26, 29, 31, 32, 34, 35, 40, 41, 52, 57, 63, 66, 67, 72, 82, 87, 90, 91, 96, 109, 111,
         ], u64::MAX),
         group("middle, tens", middle, &[
-            0, 1, 3, 5, 6, 10, 11, 12, 15, 18, 19, 23, 27, 28, 30, 33, 36, 37, 38, 43, 44, 46, 47, 53, 55, 56, 58, 61, 65, 68,
+            0, 5, 11, 12, 15, 23, 30, 33, 36, 37, 38, 42, 45, 46, 47, 54, 60, 65, 68, 69, 75, 80, 84, 95, 101, 102, 105, 106, 107, 110,
         ], u64::MAX),
         group("middle, hundreds", middle, &[
-            51, 289, 454, 477, 601, 609, 622, 637, 739, 835, 979, 1085, 1221, 1258, 1715, 1778, 1836, 1971, 2108, 2154, 2297, 2393, 2594, 2606, 2715,
+            1, 3, 19, 27, 28, 43, 44, 51, 53, 56, 58, 73, 79, 81, 86, 103, 128, 131, 136, 140, 147, 154, 157, 161, 169,
         ], u64::MAX),
         group("middle, thousands", middle, &[
-            4, 9, 13, 16, 88, 99, 108, 130, 245, 292, 299, 308, 388, 630, 1005, 1391, 1419, 1665,
-        ], 5000),
-        group("large, no choices", large, &[0, 2, 4, 5, 10, 17, 25, 26, 31, 33, 42, 69], u64::MAX),
-        group("large, few steps, tens", sparse, &[6, 8, 9, 11, 12, 15, 20, 21, 22, 23, 35, 52, 55, 61, 70], u64::MAX),
-        group("large, few fixed points, a hundred", large, &[1, 3, 6, 7, 9, 12, 15, 16, 18, 28, 37, 40], u64::MAX),
-        group("large, fixed points, a hundred", large, &[8, 11, 20, 23, 29, 35], u64::MAX),
-        group("largest net, a hundred", largest, &[0, 1, 2, 3], u64::MAX),
-        group("large, thousands", large, &[13, 14, 19, 22, 105, 116, 144, 167, 177], 2000),
-        group("all kinds, small to middle", all_to_middle, &[
-            0, 1, 3, 7, 8, 9, 10, 12, 14, 16, 17, 20, 21, 22, 27, 28, 29, 31, 34, 36, 37, 38, 39, 40, 42, 43, 46, 49, 53, 55, 56, 57, 65, 67, 68, 69,
-            71, 72, 75, 76, 77, 80, 82, 84, 85, 89, 91, 92, 93, 94, 95, 100, 101, 102, 103, 105, 106, 110, 112, 114,
+            83, 85, 93, 99, 119, 121, 142, 145, 163, 212, 220, 229, 247, 271, 273, 292, 308, 338,
         ], u64::MAX),
-        group("all kinds, large", all_large, &[0, 2, 4, 5, 7, 8, 9, 12, 15, 17, 19, 20, 21, 24, 25, 26, 27, 28], u64::MAX),
+        group("middle, spent", middle, &[4, 6, 9, 10, 13, 16, 18, 22, 39], 5000),
+        group("large, no choices", large, &[0, 2, 4, 5, 10, 17, 25, 26, 31, 33, 42, 69], u64::MAX),
+        group("large, few steps, tens", sparse, &[6, 9, 11, 20, 23, 27, 30, 33, 35, 39, 42, 45, 51, 56, 57], u64::MAX),
+        group("large, few fixed points, hundreds", large, &[3, 9, 12, 15, 18, 21, 24, 30, 36, 39, 43, 45], u64::MAX),
+        group("large, fixed points, hundreds", large, &[8, 11, 23, 41, 56, 80], u64::MAX),
+        group("largest net, hundreds", largest, &[0, 1, 2, 3], u64::MAX),
+        group("large, spent", large, &[1, 6, 7, 13, 14, 16, 19, 20, 22], 2000),
+        group("all kinds, small to middle", all_to_middle, &[
+            0, 1, 3, 7, 8, 9, 10, 12, 13, 16, 17, 20, 22, 25, 27, 28, 29, 31, 36, 38, 39, 40, 42, 43, 46, 49, 53, 56, 57, 59, 64, 68, 69, 70, 71, 72,
+            75, 76, 77, 82, 83, 84, 85, 89, 90, 91, 92, 93, 94, 95, 97, 100, 101, 102, 103, 105, 106, 110, 112, 114,
+        ], u64::MAX),
+        group("all kinds, large", all_large, &[5, 8, 9, 12, 15, 20, 21, 24, 26, 30, 36, 39, 42, 44, 45, 51, 54, 56], u64::MAX),
     ]
 }
 

@@ -1,12 +1,14 @@
-// Runs every line of a file of tables through Repair, and compares the number, the choices and every entry of the three buffers, with
+// Runs every line of a file of tables through Repair, and compares the number, the choices, the price and every entry of the three buffers, with
 // guard entries around them. Where a table is accepted, the plain search over explicit clauses must agree on the list before striking, and the
 // judge must accept the written one.
 //
-// A line: table, refusal (0: none), variables, cap, answer, choices, list, list before striking. Files from before the striking have that one
-// alone, which the word `unstruck` after the count of lines says: it is struck here.
+// A line: table, refusal (0: none), variables, cap, answer, choices, list, list before striking, price. Words after the count of lines say what an
+// older file lacks. `unpriced`: its steps have no price and get the price 0, and its choices are those of a search that ends with its first find.
+// `unstruck`: it has the list before striking alone, which is struck here.
 mod clauses;
 mod fitter;
 mod striking;
+mod unpriced;
 mod vectors;
 
 struct Vector {
@@ -15,6 +17,7 @@ struct Vector {
     variables: usize,
     cap: u64,
     choices: u64,
+    price: u32,
     list: Vec<u8>,
     before: Vec<u8>,
 }
@@ -34,15 +37,31 @@ fn struck(table: &[u8], number: u32, before: &[u8]) -> Vec<u8> {
     if number == 0 { striking::strike_packed(table, before) } else { vec![] }
 }
 
-fn vector(columns: &[String], unstruck: bool) -> Vector {
-    let (table, number) = (vectors::bytes(&columns[0]), number_of(&columns[1], &columns[4]));
-    let before = vectors::bytes(&columns[if unstruck { 6 } else { 7 }]);
+// Which words the program was called with.
+#[derive(Clone, Copy)]
+struct Lacks {
+    prices: bool,
+    striking: bool,
+}
+
+impl Lacks {
+    fn columns(self) -> usize {
+        9 - self.prices as usize - self.striking as usize
+    }
+}
+
+fn vector(columns: &[String], lacks: Lacks) -> Vector {
+    let number = number_of(&columns[1], &columns[4]);
+    let table = vectors::bytes(&columns[0]);
+    let table = if lacks.prices { unpriced::table(&table) } else { table };
+    let before = vectors::bytes(&columns[if lacks.striking { 6 } else { 7 }]);
     Vector {
         number,
         variables: columns[2].parse().unwrap_or(0),
         cap: columns[3].parse().unwrap_or(0),
         choices: columns[5].parse().unwrap_or(0),
-        list: if unstruck { struck(&table, number, &before) } else { vectors::bytes(&columns[6]) },
+        price: if lacks.prices { 0 } else { columns[8].parse().unwrap_or(0) },
+        list: if lacks.striking { struck(&table, number, &before) } else { vectors::bytes(&columns[6]) },
         before,
         table,
     }
@@ -71,16 +90,16 @@ struct Room {
     words: usize,
 }
 
-// One call, with this much room: the number, the choices, and all of the buffers and their guards.
+// One call, with this much room: the number, the choices, the price, and all of the buffers and their guards.
 fn agrees(v: &Vector, cap: u64, room: Room, wanted: u32) -> bool {
     let (mut list, mut bytes, mut words) = (list_before(room.list), bytes_before(room.bytes), words_before(room.words));
     let (mut list_after, mut bytes_after, mut words_after) = (list.clone(), bytes.clone(), words.clone());
-    let mut choices = u64::MAX - 7;
-    let mut choices_after = choices;
+    let (mut choices, mut price) = (u64::MAX - 7, u32::MAX - 7);
+    let (mut choices_after, mut price_after) = (choices, price);
     if [0, 14, 15].contains(&wanted) {
         bytes_after[GUARD..GUARD + v.variables].fill(0);
         words_after[GUARD..GUARD + v.variables].fill(0);
-        choices_after = v.choices;
+        (choices_after, price_after) = (v.choices, v.price);
     }
     if wanted == 0 {
         list_after[GUARD..GUARD + v.list.len()].copy_from_slice(&v.list);
@@ -92,8 +111,10 @@ fn agrees(v: &Vector, cap: u64, room: Room, wanted: u32) -> bool {
         &mut bytes[GUARD..GUARD + room.bytes],
         &mut words[GUARD..GUARD + room.words],
         &mut choices,
+        &mut price,
     );
-    got == wanted && choices == choices_after && list == list_after && bytes == bytes_after && words == words_after
+    let stored = choices == choices_after && price == price_after;
+    got == wanted && stored && list == list_after && bytes == bytes_after && words == words_after
 }
 
 // With as much room as needed, with more, and with one entry too few of each buffer.
@@ -126,23 +147,40 @@ fn striking_agrees(v: &Vector) -> bool {
 
 fn plain_agrees(v: &Vector) -> bool {
     let net = clauses::net(&v.table);
-    let wanted = clauses::Answer { number: v.number, choices: v.choices, list: v.before.clone() };
+    let wanted = clauses::Answer { number: v.number, choices: v.choices, price: v.price, list: v.before.clone() };
     net.variables == v.variables && clauses::search(&net, v.cap) == wanted
 }
 
-fn line_agrees(columns: &[String], unstruck: bool) -> bool {
-    if columns.len() != if unstruck { 7 } else { 8 } {
-        return false;
-    }
-    let v = vector(columns, unstruck);
+fn vector_agrees(v: &Vector) -> bool {
     if [0, 14, 15].contains(&v.number) {
-        accepted_agrees(&v) && judge_agrees(&v) && striking_agrees(&v) && plain_agrees(&v)
+        accepted_agrees(v) && judge_agrees(v) && striking_agrees(v) && plain_agrees(v)
     } else {
-        refused_agrees(&v)
+        refused_agrees(v)
     }
 }
 
+// A find that ended the search before there were prices. With all prices 0 nothing undercuts it, so it is the answer still; but the search goes on,
+// and each try with a step kept that led to it is followed by one with the step struck, which fails at once: a choice more for each, as many as
+// the plain search makes. With its own cap the line is found as well or spent now.
+fn found_agrees(v: Vector) -> bool {
+    let choices = clauses::repair(&v.table, u64::MAX).choices;
+    let more = v.choices..=v.choices + v.table[1] as u64;
+    let spent = Vector { number: 15, choices: v.cap, list: vec![], before: vec![], table: v.table.clone(), ..v };
+    let own = Vector { choices, list: v.list.clone(), before: v.before.clone(), table: v.table.clone(), ..v };
+    more.contains(&choices)
+        && vector_agrees(if choices <= v.cap { &own } else { &spent })
+        && vector_agrees(&Vector { choices, cap: u64::MAX, ..v })
+}
+
+fn line_agrees(columns: &[String], lacks: Lacks) -> bool {
+    if columns.len() != lacks.columns() {
+        return false;
+    }
+    let v = vector(columns, lacks);
+    if lacks.prices && v.number == 0 { found_agrees(v) } else { vector_agrees(&v) }
+}
+
 fn main() {
-    let [unstruck] = vectors::flags(3, ["unstruck"]);
-    vectors::run("repairs", |columns| line_agrees(columns, unstruck))
+    let [prices, striking] = vectors::flags(3, ["unpriced", "unstruck"]);
+    vectors::run("repairs", |columns| line_agrees(columns, Lacks { prices, striking }))
 }

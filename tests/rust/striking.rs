@@ -39,6 +39,6 @@ pub fn strike(initial: &[bool], steps: &[Step], list: &[u8]) -> Vec<u8> {
 pub fn strike_packed(table: &[u8], list: &[u8]) -> Vec<u8> {
     let (n, e) = (table[0] as usize, table[1] as usize);
     let initial: Vec<bool> = (0..n).map(|s| table[4 + 3 * s] == 1).collect();
-    let steps: Vec<Step> = table[4 + 3 * n..4 + 3 * n + 2 * e].chunks(2).map(|step| (step[0] as usize, step[1] as usize)).collect();
+    let steps: Vec<Step> = table[4 + 3 * n..4 + 3 * n + 3 * e].chunks(3).map(|step| (step[0] as usize, step[1] as usize)).collect();
     strike(&initial, &steps, list)
 }

@@ -1,7 +1,9 @@
 // Makes all five calls from several threads at once, each on tables and texts of its own, and compares with the answers of one thread.
 //
-// Called with a file of tables, a file of sheets, and how many tables there are.
+// Called with a file of tables, a file of sheets, and how many tables there are. The word `unpriced` after that says that both files are from before
+// the price: their steps get the price 0.
 mod fitter;
+mod unpriced;
 mod vectors;
 
 use std::sync::Barrier;
@@ -26,7 +28,7 @@ struct Answers {
     judge: u32,
     label: (u32, Vec<u32>),
     holding: (u32, Vec<u8>, u32),
-    repair: (u32, Vec<u8>, Vec<u8>, Vec<u32>, u64),
+    repair: (u32, Vec<u8>, Vec<u8>, Vec<u32>, u64, u32),
     read: (u32, Vec<u8>, u64),
 }
 
@@ -40,14 +42,15 @@ fn holding(c: &Case) -> (u32, Vec<u8>, u32) {
     (fitter::holding(&c.table, &c.list, &mut out, &mut count), out, count)
 }
 
-fn repair(c: &Case) -> (u32, Vec<u8>, Vec<u8>, Vec<u32>, u64) {
-    let (mut list, mut bytes, mut words, mut choices) = (vec![7; c.list.len()], vec![7; c.variables], vec![7; c.variables], 7);
-    let number = fitter::repair(&c.table, c.cap, &mut list, &mut bytes, &mut words, &mut choices);
-    (number, list, bytes, words, choices)
+fn repair(c: &Case) -> (u32, Vec<u8>, Vec<u8>, Vec<u32>, u64, u32) {
+    let (mut list, mut bytes, mut words) = (vec![7; c.list.len()], vec![7; c.variables], vec![7; c.variables]);
+    let (mut choices, mut price) = (7, 7);
+    let number = fitter::repair(&c.table, c.cap, &mut list, &mut bytes, &mut words, &mut choices, &mut price);
+    (number, list, bytes, words, choices, price)
 }
 
 fn read(c: &Case) -> (u32, Vec<u8>, u64) {
-    let (mut out, mut length) = (vec![7; 452], 7);
+    let (mut out, mut length) = (vec![7; 580], 7);
     (fitter::read(&c.text, &mut out, &mut length), out, length)
 }
 
@@ -56,17 +59,19 @@ fn answers(c: &Case) -> Answers {
 }
 
 // A line of tables.tsv, with a line of sheets.tsv. The list keeps every step.
-fn case(line: &[String], sheet: &[String]) -> Case {
-    let table = vectors::bytes(&line[0]);
+fn case(line: &[String], sheet: &[String], unpriced: bool) -> Case {
+    let (table, text) = (vectors::bytes(&line[0]), vectors::bytes(&sheet[0]));
+    let (table, text) = if unpriced { (unpriced::table(&table), unpriced::sheet(&text)) } else { (table, text) };
     let steps = table.get(1).copied().unwrap_or(0) as usize;
     let cap = line[3].parse().unwrap_or(0).min(MOST_CHOICES);
-    Case { table, list: vec![1; steps], variables: line[2].parse().unwrap_or(0), cap, text: vectors::bytes(&sheet[0]) }
+    Case { table, list: vec![1; steps], variables: line[2].parse().unwrap_or(0), cap, text }
 }
 
 fn cases() -> Vec<Case> {
     let paths: Vec<String> = std::env::args().skip(1).collect();
+    let [unpriced] = vectors::flags(4, ["unpriced"]);
     let (tables, sheets) = (vectors::read(&paths[0]), vectors::read(&paths[1]));
-    tables.iter().zip(sheets.iter().cycle()).map(|(line, sheet)| case(line, sheet)).collect()
+    tables.iter().zip(sheets.iter().cycle()).map(|(line, sheet)| case(line, sheet, unpriced)).collect()
 }
 
 // How many cases of a thread's own differ, over all rounds.

@@ -11,7 +11,7 @@ use lib.ListN.{length}
 use Rattle.sets.specs.Member.{member}
 use Rattle.sets.proofs.SetOf.{setOf-lt, in-set}
 use Rattle.table.specs.declared.record.Step.{Step}
-use Rattle.table.specs.Accept.{sameStep}
+use Rattle.table.specs.Accept.{joins}
 use Rattle.table.specs.Table.{Table, zeroStep, stepAt}
 use Rattle.table.specs.Facts.{Wellformed}
 use Rattle.table.specs.Rows.{targetSet}
@@ -27,7 +27,7 @@ unfolding targetSet
 target-true T wf s t = (there, back)
   where
     is-step : Step → Bool
-    is-step = sameStep (record { from = s; to = t })
+    is-step = joins s t
 
     there : member (targetSet (T .steps) s) t ≡ true → (j : ℕ) × (j < length (T .steps)) × (stepAt T j .from ≡ s) × (stepAt T j .to ≡ t)
     there e =

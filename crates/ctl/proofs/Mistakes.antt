@@ -13,6 +13,7 @@ use Rattle.table.specs.Accept.{all, any, sameStep, nodeFits}
 use Rattle.table.specs.Facts.{Wellformed}
 use Rattle.table.proofs.Bools.{not-so}
 use Rattle.table.proofs.Verdicts.{refused}
+use Rattle.ctl.specs.Price.{sumBelow, listPrice}
 use Rattle.ctl.specs.Meaning.{Formula, ax, Fullpath, Released, UntilAlong, Holds}
 use Rattle.ctl.specs.Rule.{every, bottomUp, rootIndex}
 use Rattle.ctl.specs.Kept.{Initial, Labelled, IsList, Next, Kept, Repair, NarrowRepair}
@@ -69,7 +70,7 @@ unkept-asks-nothing T list s e = rw (e, and-false)
 abbrev pub loops : Table
 loops = record {
   states = record { initial = 1; label = 1 } ∷ record { initial = 0; label = 0 } ∷ [];
-  steps = record { from = 0; to = 0 } ∷ record { from = 1; to = 1 } ∷ [];
+  steps = record { from = 0; to = 0; price = 3 } ∷ record { from = 1; to = 1; price = 7 } ∷ [];
   nodes = record { kind = 2; a = 0; b = 0 } ∷ [];
   props = 1;
 }
@@ -92,6 +93,15 @@ loops-unreached = refl
 pub loops-struck : strike loops both-loops ≡ 1 ∷ 0 ∷ []
 unfolding all any tabulate iterate nextIn level levels keptSteps endsFrom reachedSet strike
 loops-struck = refl
+
+-- striking it costs what the step costs; the list before costs nothing, and that price is the one reported
+pub loops-cost : listPrice loops (1 ∷ 0 ∷ []) ≡ 7
+unfolding sumBelow
+loops-cost = refl
+
+pub loops-free : listPrice loops both-loops ≡ 0
+unfolding sumBelow
+loops-free = refl
 
 -- the loop at state 1 is kept
 pub loop-kept : Kept loops both-loops 1

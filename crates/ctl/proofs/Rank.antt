@@ -1,4 +1,4 @@
--- Rank is a strict total order on the kept lists of one length, so a class of them has at most one first list.
+-- Rank is a strict total order on the kept lists of one length, so a class of them has at most one first list, and at most one cheapest, then first.
 use Prim.Native.Nat.{ℕ, zero, suc, _≤_, _<_, zero-le, suc-le-suc}
 use mathlib.Core.Path.{_≡_, refl, sym, ap, _∙_}
 use mathlib.Core.Logic.{_⊎_, inl, inr}
@@ -7,7 +7,7 @@ use native.Mathlib.Nat.{suc-inj, suc-ne-zero, not-suc-le-zero}
 use native.Mathlib.Decide.{ℕ-discrete, decLt}
 use native.Mathlib.Omega.{arith}
 use lib.ListN.{length, getD}
-use Rattle.ctl.specs.Rank.{RanksBefore, First}
+use Rattle.ctl.specs.Rank.{RanksBefore, First, Cheapest}
 
 -- every entry is 0 or 1
 abbrev pub Bits : List ℕ → Type 0
@@ -105,3 +105,11 @@ first-unique P size l m a b = by (List-discrete ℕ-discrete l m)
     by (yes e) = e
     by (no n) =
         absurd (asymmetric l m (size l m (a .member) (b .member)) (a .before m (b .member) (λ e. n (sym e))) (b .before l (a .member) n))
+
+-- and so at most one cheapest, then first in rank
+pub cheapest-unique : (price : List ℕ → ℕ) (P : List ℕ → Type 0) (size : (l m : List ℕ) → P l → P m → length l ≡ length m) (l m : List ℕ)
+    → Cheapest price P l → Cheapest price P m → l ≡ m
+cheapest-unique price P size l m a b =
+    let same : price m ≡ price l = omega (arith, a .lowest m (b .first .member .0), b .lowest l (a .first .member .0)) in
+    first-unique (λ k. P k × (price k ≡ price l)) (λ k k′ p q. size k k′ (p .0) (q .0)) l m (a .first)
+    (record { member = (b .first .member .0, same); before = λ k p other. b .first .before k (p .0, p .1 ∙ sym same) other })

@@ -19,13 +19,14 @@ use Rattle.table.proofs.All.{all-at, at-all}
 use Rattle.table.proofs.Verdicts.{refused, then-accepted, accepted-then, require-accepted, accepted-require}
 use Rattle.ctl.specs.Rule.{rootIndex}
 use Rattle.ctl.specs.Kept.{Initial, IsList, Next, Kept, Total, NodeHolds, Reached, Repair, NarrowRepair}
-use Rattle.ctl.specs.Rank.{First}
+use Rattle.ctl.specs.Rank.{Cheapest}
+use Rattle.ctl.specs.Price.{listPrice}
 use Rattle.ctl.specs.Labels.{keptSteps, marked}
 use Rattle.ctl.specs.Reached.{isInitialKept}
 use Rattle.ctl.specs.Tests.{states, isTotal, keepsInitial, leavesReached, rootMarked, isRepair, narrowTests, judgeVerdict}
 use Rattle.ctl.proofs.Tabulate.{all-true, any-true}
 use Rattle.ctl.proofs.Select.{in-below}
-use Rattle.ctl.proofs.Rank.{first-unique}
+use Rattle.ctl.proofs.Rank.{cheapest-unique}
 use Rattle.ctl.proofs.Targets.{kept-step-next, next-kept-step, is-kept}
 use Rattle.ctl.proofs.Meaning.{labels-are-meaning}
 use Rattle.ctl.proofs.Reached.{initial-kept, is-reached}
@@ -171,6 +172,6 @@ repair-dec T wf list = go (accepted-dec (listVerdict (length (T .steps)) list))
     go (yes e) = Dec·of-iff (repair-decided T wf list (is-list T list .0 e)) (true-dec (isRepair T list))
     go (no n) = no (λ r. n (is-list T list .1 (r .form)))
 
--- A table has at most one first repair.
-pub first-repair-unique : (T : Table) (l m : List ℕ) → First (Repair T) l → First (Repair T) m → l ≡ m
-first-repair-unique T = first-unique (Repair T) (λ l m p q. p .form .size ∙ sym (q .form .size))
+-- A table has at most one repair that is the cheapest, then first in rank.
+pub cheapest-repair-unique : (T : Table) (l m : List ℕ) → Cheapest (listPrice T) (Repair T) l → Cheapest (listPrice T) (Repair T) m → l ≡ m
+cheapest-repair-unique T = cheapest-unique (listPrice T) (Repair T) (λ l m p q. p .form .size ∙ sym (q .form .size))

@@ -2,6 +2,7 @@ pub mod Meaning
 pub mod Rule
 pub mod Kept
 pub mod Rank
+pub mod Price
 pub mod Levels
 pub mod Labels
 pub mod Reached

@@ -1,5 +1,5 @@
--- The order of kept lists: 01, "Of two lists, that which keeps the lowest-numbered step where they differ ranks first."
-use Prim.Native.Nat.{ℕ, _<_}
+-- The order of kept lists: 01, "Of two lists, that which keeps the lowest-numbered step where they differ ranks first", and 02, A4, price before rank.
+use Prim.Native.Nat.{ℕ, _≤_, _<_}
 use mathlib.Core.Path.{_≡_}
 use mathlib.Core.List.{List}
 use lib.ListN.{length, getD}
@@ -16,3 +16,8 @@ pub record RanksBefore (l m : List ℕ) : Type 0 where
 pub record First (P : List ℕ → Type 0) (l : List ℕ) : Type 0 where
   pub member : P l
   pub before : (m : List ℕ) → P m → ¬ (m ≡ l) → RanksBefore l m
+
+-- 02, A4: "cheapest, then first in rank". No list in P undercuts the price of l, and of those that have its price l is the first.
+pub record Cheapest (price : List ℕ → ℕ) (P : List ℕ → Type 0) (l : List ℕ) : Type 0 where
+  pub lowest : (m : List ℕ) → P m → price l ≤ price m
+  pub first : First (λ m. P m × (price m ≡ price l)) l

@@ -19,7 +19,7 @@ abbrev pub startSet : Table → List ℕ → List Bool
 startSet T list = tabulate (length (T .states)) (isInitialKept T list)
 
 abbrev pub turned : Step → Step
-turned x = record { from = x .to; to = x .from }
+turned x = record { from = x .to; to = x .from; price = x .price }
 
 -- the states from which a kept step leads to s
 abbrev pub sources : Table → List ℕ → ℕ → List ℕ

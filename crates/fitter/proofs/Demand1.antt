@@ -43,7 +43,7 @@ use Rattle.repair.specs.Outcome.{repairVerdict, writtenAfter, repairList}
 use Rattle.repair.proofs.Answered.{refused-back, found-back, none-back, spent-back, choices-back}
 use Rattle.repair.proofs.Cleared.{cleared-written}
 use Rattle.repair.proofs.Order.{accepted-parts, left}
-use Rattle.fitter.specs.Exports.{holdingCount, readLength, stored, repairChoices}
+use Rattle.fitter.specs.Exports.{holdingCount, readLength, stored, repairChoices, repairPrice}
 use Rattle.fitter.specs.Demand1.{AfterRepair, AfterLabel, AfterHolding, AfterRead, Demand1}
 
 -- ---- Repair
@@ -64,15 +64,20 @@ module _ (table : List ℕ) (cap : ℕ) (list bytes words : List ℕ) where
     refused = λ r. (refused-back verdict outcome r, λ h. sym (left table cap list bytes words (Refused r) h .0));
     untouched = λ r e.
         let h = refused-back verdict outcome r e in
-        let l = left table cap list bytes words (Refused r) h in
-        (sym (l .1 .0), sym (l .1 .1 .0), sym (l .1 .1 .1), λ before. ap (λ (a : Answer). repairChoices a before) e);
-    found-list = λ c e.
-        let b = found-back verdict outcome c e in
+        let l = left table cap list bytes words (Refused r) h in (
+          sym (l .1 .0),
+          sym (l .1 .1 .0),
+          sym (l .1 .1 .1),
+          λ before. ap (λ (a : Answer). repairChoices a before) e,
+          λ before. ap (λ (a : Answer). repairPrice a before) e,
+        );
+    found-list = λ p c e.
+        let b = found-back verdict outcome p c e in
         let m = b .1 .0 in
         let fits = accepted-parts table list bytes words (b .0) in (
           m,
           b .1 .1,
-          subst (λ (after : List ℕ). Written (strike (tableOf table) (listOf (tableOf table) m)) list after) (sym (list-after (b .0) (found m c) (b .1 .1)))
+          subst (λ (after : List ℕ). Written (strike (tableOf table) (listOf (tableOf table) m)) list after) (sym (list-after (b .0) (found m p c) (b .1 .1)))
               (front-written (strike (tableOf table) (listOf (tableOf table) m)) list (length (tableOf table .steps)) (strike-length (tableOf table) (listOf (tableOf table) m)) (fits .1)),
         );
     none-list = λ c e. let b = none-back verdict outcome c e in list-after (b .0) (none c) (b .1);
@@ -86,6 +91,7 @@ module _ (table : List ℕ) (cap : ℕ) (list bytes words : List ℕ) where
           subst (λ (after : List ℕ). Written V0 words after) (l .1 .1 .1) (cleared-written (variableFormula (tableOf table)) words (fits .3)),
           λ before. ap (λ (k : Option ℕ). stored k before) e,
         );
+    priced = λ p e before. ap (λ (k : Option ℕ). stored k before) e;
   }
 
 -- ---- Label

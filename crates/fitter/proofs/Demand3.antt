@@ -13,7 +13,8 @@ use Rattle.table.specs.Table.{Table, tableOf}
 use Rattle.table.specs.Facts.{Wellformed}
 use Rattle.table.proofs.Accepted.{accepted}
 use Rattle.ctl.specs.Kept.{Struck, Repair, NarrowRepair}
-use Rattle.ctl.specs.Rank.{First}
+use Rattle.ctl.specs.Price.{listPrice}
+use Rattle.ctl.specs.Rank.{Cheapest}
 use Rattle.ctl.specs.Reached.{strike}
 use Rattle.ctl.proofs.Repair.{judge-accepts-repairs}
 use Rattle.ctl.proofs.Strike.{strike-length, strike-is-exact, striking-narrows, senses-agree}
@@ -51,31 +52,35 @@ module _ (table : List ℕ) (cap : ℕ) (list bytes words : List ℕ) (g : LongE
   within h o e = right .same-within cap h ∙ e
 
   -- what is found under the cap is found without one
-  found-free : (m : Marks) (c : ℕ) → searchUnder T cap ≡ found m c → searchFree T ≡ found m c
-  found-free m c e = go (decLt cap (choices (searchFree T)))
+  found-free : (m : Marks) (p c : ℕ) → searchUnder T cap ≡ found m p c → searchFree T ≡ found m p c
+  found-free m p c e = go (decLt cap (choices (searchFree T)))
     where
-      go : Dec (cap < choices (searchFree T)) → searchFree T ≡ found m c
+      go : Dec (cap < choices (searchFree T)) → searchFree T ≡ found m p c
       go (yes over) = absurd (let s = right .spent-over cap over in let z : _≡_ {A = ℕ} 0 1 = cc in omega arith)
       go (no d) = sym (right .same-within cap (omega (arith, d))) ∙ e
 
   -- the first e bytes of the list are those that the marks give, struck
-  written : (m : Marks) (c : ℕ) → searchUnder T cap ≡ found m c → take (length (T .steps)) (repairList table cap list bytes words) ≡ strike T (listOf T m)
-  written m c e =
+  written : (m : Marks) (p c : ℕ) → searchUnder T cap ≡ found m p c → take (length (T .steps)) (repairList table cap list bytes words) ≡ strike T (listOf T m)
+  written m p c e =
       (λ j. take (length (T .steps)) (onAccepted (fits j) (writtenAfter T (e j) list) list))
       ∙ take-at (strike T (listOf T m)) (drop (length (T .steps)) list) (length (T .steps)) (strike-length T (listOf T m))
 
-  -- a list is found: the first of all repairs, and it is written struck
-  found-list : (c : ℕ) → repairAnswer table cap list bytes words ≡ Found c
-      → (before : List ℕ) × First (Repair T) before × (take (length (T .steps)) (repairList table cap list bytes words) ≡ strike T before)
-  found-list c e =
-      let b = found-back (repairVerdict table list bytes words) (searchUnder T cap) c e in
+  -- a list is found: the cheapest of all repairs, with its price, and it is written struck
+  found-list : (p c : ℕ) → repairAnswer table cap list bytes words ≡ Found p c
+      → (before : List ℕ)
+      × Cheapest (listPrice T) (Repair T) before
+      × (p ≡ listPrice T before)
+      × (take (length (T .steps)) (repairList table cap list bytes words) ≡ strike T before)
+  found-list p c e =
+      let b = found-back (repairVerdict table list bytes words) (searchUnder T cap) p c e in
       let m = b .1 .0 in
-      (listOf T m, right .found-first m c (found-free m c (b .1 .1)), written m c (b .1 .1))
+      let cheapest = right .found-cheapest m p c (found-free m p c (b .1 .1)) in
+      (listOf T m, cheapest .0, cheapest .1, written m p c (b .1 .1))
 
-  narrow : (c : ℕ) → repairAnswer table cap list bytes words ≡ Found c → NarrowRepair T (take (length (T .steps)) (repairList table cap list bytes words))
-  narrow c e =
-      let f = found-list c e in
-      subst (λ (l : List ℕ). NarrowRepair T l) (sym (f .2)) (striking-narrows T wf (f .0) (f .1 .member))
+  narrow : (p c : ℕ) → repairAnswer table cap list bytes words ≡ Found p c → NarrowRepair T (take (length (T .steps)) (repairList table cap list bytes words))
+  narrow p c e =
+      let f = found-list p c e in
+      subst (λ (l : List ℕ). NarrowRepair T l) (sym (f .3)) (striking-narrows T wf (f .0) (f .1 .first .member .0))
 
   spent-exact : ((c : ℕ) × (repairAnswer table cap list bytes words ≡ Spent c)) ↔ (cap < choices (searchFree T))
   spent-exact = (λ r. go (r .0) (r .1) (decLt cap (choices (searchFree T))), λ h. (cap, answered (spent cap) (right .spent-over cap h)))
@@ -92,11 +97,11 @@ module _ (table : List ℕ) (cap : ℕ) (list bytes words : List ℕ) (g : LongE
       λ no-repair. let r = right .none-exact .1 no-repair in (r .0, answered (none (r .0)) (within h _ (r .1))),
     )
 
-    found-else : ((c : ℕ) × (repairAnswer table cap list bytes words ≡ Found c)) ↔ ((l : List ℕ) × Repair T l)
-    found-else = (λ r. let f = found-list (r .0) (r .1) in (f .0, f .1 .member), λ r. go (r .0) (r .1) (searchFree T) refl)
+    found-else : ((p : ℕ) × (c : ℕ) × (repairAnswer table cap list bytes words ≡ Found p c)) ↔ ((l : List ℕ) × Repair T l)
+    found-else = (λ r. let f = found-list (r .0) (r .1) (r .2) in (f .0, f .1 .first .member .0), λ r. go (r .0) (r .1) (searchFree T) refl)
       where
-        go : (l : List ℕ) → Repair T l → (o : Outcome) → searchFree T ≡ o → (c : ℕ) × (repairAnswer table cap list bytes words ≡ Found c)
-        go l repair (found m c) e = (c, answered (found m c) (within h _ e))
+        go : (l : List ℕ) → Repair T l → (o : Outcome) → searchFree T ≡ o → (p : ℕ) × (c : ℕ) × (repairAnswer table cap list bytes words ≡ Found p c)
+        go l repair (found m p c) e = (p, c, answered (found m p c) (within h _ e))
         go l repair (none c) e = absurd (right .none-exact .0 (c, e) l repair)
         go l repair (spent c) e = absurd (right .unspent c e)
 
@@ -106,9 +111,11 @@ module _ (table : List ℕ) (cap : ℕ) (list bytes words : List ℕ) (g : LongE
     none-exact = none-exact;
     senses-agree = senses-agree T wf;
     found-else = found-else;
-    found-first = λ c e. let f = found-list c e in (f .0, f .1, subst (λ (l : List ℕ). Struck T (f .0) l) (sym (f .2)) (strike-is-exact T wf (f .0)));
+    found-cheapest = λ p c e.
+        let f = found-list p c e in
+        (f .0, f .1, f .2, subst (λ (l : List ℕ). Struck T (f .0) l) (sym (f .3)) (strike-is-exact T wf (f .0)));
     found-narrow = narrow;
-    found-judged = λ c e. judge-accepts-repairs table _ wf (g .accepted) .1 (narrow c e);
+    found-judged = λ p c e. judge-accepts-repairs table _ wf (g .accepted) .1 (narrow p c e);
     carries = ap answerChoices (answered (searchUnder T cap) refl) ∙ choices-of (searchUnder T cap);
     judge-exact = judge-accepts-repairs table judged wf (g .accepted);
   }

@@ -2,7 +2,7 @@
 -- bad input gets its number from 01, and nothing relies on a check made outside."
 --
 -- The contracts of src/lib.rt equate each call's number and buffers with the definitions that this file speaks of. They have no `requires`, and a
--- function that is proved ends. The judge is lent no buffer. C lends a number besides, which held `before`: Exports.antt says what it holds after.
+-- function that is proved ends. The judge is lent no buffer. C lends numbers besides, each of which held `before`: Exports.antt says what they hold after.
 use Prim.Native.Nat.{ℕ, _<_}
 use mathlib.Core.Path.{_≡_}
 use mathlib.Core.Bool.{Bool, true}
@@ -31,9 +31,9 @@ use Rattle.reader.specs.declared.answer.Read.the-variants.{Length, Refused as R
 use Rattle.sheet.specs.Form.{Sheet, InRange, render}
 use Rattle.reader.specs.Read.{pack, readVerdict, readAnswer, readBuffer}
 use Rattle.repair.specs.declared.answer.Answer.the-variants.{Found, None, Spent, Refused as RepairRefused}
-use Rattle.repair.specs.Answer.{answerChoices}
+use Rattle.repair.specs.Answer.{answerChoices, answerPrice}
 use Rattle.repair.specs.Outcome.{repairVerdict, repairAnswer, repairList, repairBytes, repairWords}
-use Rattle.fitter.specs.Exports.{holdingCount, readLength, repairChoices}
+use Rattle.fitter.specs.Exports.{holdingCount, readLength, repairChoices, repairPrice}
 
 -- ---- Repair
 
@@ -46,9 +46,10 @@ pub record AfterRepair (table : List ℕ) (cap : ℕ) (list bytes words : List �
       × (repairBytes table cap list bytes words ≡ bytes)
       × (repairWords table cap list bytes words ≡ words)
       × ((before : ℕ) → repairChoices (repairAnswer table cap list bytes words) before ≡ before)
+      × ((before : ℕ) → repairPrice (repairAnswer table cap list bytes words) before ≡ before)
   -- "Found writes the first e list bytes. The rest stays." What it writes is, by 02's A3, what the search finds, struck.
-  pub found-list : (c : ℕ) → repairAnswer table cap list bytes words ≡ Found c
-      → (m : Marks) × (searchUnder (tableOf table) cap ≡ found m c) × Written (strike (tableOf table) (listOf (tableOf table) m)) list (repairList table cap list bytes words)
+  pub found-list : (p c : ℕ) → repairAnswer table cap list bytes words ≡ Found p c
+      → (m : Marks) × (searchUnder (tableOf table) cap ≡ found m p c) × Written (strike (tableOf table) (listOf (tableOf table) m)) list (repairList table cap list bytes words)
   -- "None and spent (14, 15) touch only work buffers."
   pub none-list : (c : ℕ) → repairAnswer table cap list bytes words ≡ None c → repairList table cap list bytes words ≡ list
   pub spent-list : (c : ℕ) → repairAnswer table cap list bytes words ≡ Spent c → repairList table cap list bytes words ≡ list
@@ -57,6 +58,9 @@ pub record AfterRepair (table : List ℕ) (cap : ℕ) (list bytes words : List �
       → Written (replicate (variableFormula (tableOf table)) 0) bytes (repairBytes table cap list bytes words)
       × Written (replicate (variableFormula (tableOf table)) 0) words (repairWords table cap list bytes words)
       × ((before : ℕ) → repairChoices (repairAnswer table cap list bytes words) before ≡ c)
+  -- 02, A4: "this price is reported", 0 for none and spent
+  pub priced : (p : ℕ) → answerPrice (repairAnswer table cap list bytes words) ≡ some p
+      → (before : ℕ) → repairPrice (repairAnswer table cap list bytes words) before ≡ p
 
 -- ---- Label
 

@@ -12,7 +12,8 @@ use Rattle.table.specs.declared.refusal.Verdict.the-variants.{Accepted}
 use Rattle.table.specs.Table.{tableOf}
 use Rattle.table.specs.Accept.{tableVerdict}
 use Rattle.ctl.specs.Kept.{Struck, Repair, NarrowRepair}
-use Rattle.ctl.specs.Rank.{First}
+use Rattle.ctl.specs.Price.{listPrice}
+use Rattle.ctl.specs.Rank.{Cheapest}
 use Rattle.ctl.specs.Tests.{judgeVerdict}
 use Rattle.circuit.specs.Variables.{variableFormula}
 use Rattle.search.specs.TableSearch.{searchUnder, searchFree}
@@ -30,9 +31,9 @@ pub record LongEnough (table list bytes words : List ℕ) : Type 0 where
   pub words-long : variableFormula (tableOf table) ≤ length words
 
 -- "A repair is a list that is total, keeps an initial state and has the rule at every kept initial state under path meaning": `Repair`. 02's A3 has a
--- narrower sense besides: `NarrowRepair`. None and rank are promised of the first, the written list and the judge of the second.
+-- narrower sense besides: `NarrowRepair`. None, price and rank are promised of the first, the written list and the judge of the second.
 pub record Together (table : List ℕ) (cap : ℕ) (list bytes words judged : List ℕ) : Type 0 where
-  -- "The repairer answers "spent" exactly when 01's search, uncapped, makes more choices than the cap."
+  -- "The repairer answers "spent" exactly when" A4's search, "uncapped, makes more choices than the cap."
   pub spent-exact : ((c : ℕ) × (repairAnswer table cap list bytes words ≡ Spent c)) ↔ (cap < choices (searchFree (tableOf table)))
   -- "Otherwise it answers "none" exactly when no list is a repair,"
   pub none-exact : choices (searchFree (tableOf table)) ≤ cap
@@ -41,20 +42,21 @@ pub record Together (table : List ℕ) (cap : ℕ) (list bytes words judged : Li
   pub senses-agree : ((l : List ℕ) → ¬ Repair (tableOf table) l) ↔ ((l : List ℕ) → ¬ NarrowRepair (tableOf table) l)
   -- "and else "found"."
   pub found-else : choices (searchFree (tableOf table)) ≤ cap
-      → ((c : ℕ) × (repairAnswer table cap list bytes words ≡ Found c)) ↔ ((l : List ℕ) × Repair (tableOf table) l)
-  -- A3: "Its list before striking is the one that ranks first of all repairs in 01's sense", and every other ranks after it; that list, struck, is the
-  -- one written,
-  pub found-first : (c : ℕ) → repairAnswer table cap list bytes words ≡ Found c
+      → ((p : ℕ) × (c : ℕ) × (repairAnswer table cap list bytes words ≡ Found p c)) ↔ ((l : List ℕ) × Repair (tableOf table) l)
+  -- A4: "The list before that striking has a price that no other repair in 01's sense undercuts, ranking for equal prices, and this price is reported."
+  -- That list, struck, is the one written.
+  pub found-cheapest : (p c : ℕ) → repairAnswer table cap list bytes words ≡ Found p c
       → (before : List ℕ)
-      × First (Repair (tableOf table)) before
+      × Cheapest (listPrice (tableOf table)) (Repair (tableOf table)) before
+      × (p ≡ listPrice (tableOf table) before)
       × Struck (tableOf table) before (take (length (tableOf table .steps)) (repairList table cap list bytes words))
-  -- "the written one is a repair in the narrower sense,"
-  pub found-narrow : (c : ℕ) → repairAnswer table cap list bytes words ≡ Found c
+  -- A3: "the written one is a repair in the narrower sense,"
+  pub found-narrow : (p c : ℕ) → repairAnswer table cap list bytes words ≡ Found p c
       → NarrowRepair (tableOf table) (take (length (tableOf table .steps)) (repairList table cap list bytes words))
   -- "and the judge accepts it."
-  pub found-judged : (c : ℕ) → repairAnswer table cap list bytes words ≡ Found c
+  pub found-judged : (p c : ℕ) → repairAnswer table cap list bytes words ≡ Found p c
       → judgeVerdict table (take (length (tableOf table .steps)) (repairList table cap list bytes words)) ≡ Accepted
-  -- "Each of the three answers carries the choices that 01's search makes under the cap."
+  -- "Each of the three answers carries the choices that" A4's search "makes under the cap."
   pub carries : answerChoices (repairAnswer table cap list bytes words) ≡ some (choices (searchUnder (tableOf table) cap))
   -- A3: "The judge accepts a list exactly when it is a repair in this narrower sense", "whoever made it".
   pub judge-exact : (judgeVerdict table judged ≡ Accepted) ↔ NarrowRepair (tableOf table) judged

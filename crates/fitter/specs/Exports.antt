@@ -6,7 +6,7 @@ use Rattle.label.specs.declared.holding.Holding.the-variants.{Count, Refused}
 use Rattle.reader.specs.declared.answer.Read.{Read}
 use Rattle.reader.specs.declared.answer.Read.the-variants.{Length, Refused as ReadRefused}
 use Rattle.repair.specs.declared.answer.Answer.{Answer}
-use Rattle.repair.specs.Answer.{answerChoices}
+use Rattle.repair.specs.Answer.{answerChoices, answerPrice}
 
 -- Holding's count: that of the states where they are given, else as it was
 abbrev pub holdingCount : Holding → ℕ → ℕ
@@ -18,10 +18,13 @@ abbrev pub readLength : Read → ℕ → ℕ
 readLength (Length k) before = k
 readLength (ReadRefused r) before = before
 
--- Repair's choices: those that the answer carries, and after a refusal as it was
+-- Repair's choices and price: those that the answer carries, and after a refusal as they were
 abbrev pub stored : Option ℕ → ℕ → ℕ
 stored (some c) before = c
 stored none before = before
 
 abbrev pub repairChoices : Answer → ℕ → ℕ
 repairChoices answer before = stored (answerChoices answer) before
+
+abbrev pub repairPrice : Answer → ℕ → ℕ
+repairPrice answer before = stored (answerPrice answer) before

@@ -10,30 +10,33 @@ ghost use Rattle.label.specs.Calls.{labelVerdict, labelBuffer, holdingAnswer, h
 ghost use Rattle.reader.specs.Read.{readAnswer, readBuffer, readNumber};
 ghost use Rattle.repair.specs.Answer.{answerNumber};
 ghost use Rattle.repair.specs.Outcome.{repairAnswer, repairList, repairBytes, repairWords};
-ghost use Rattle.fitter.specs.Exports.{holdingCount, readLength, repairChoices};
+ghost use Rattle.fitter.specs.Exports.{holdingCount, readLength, repairChoices, repairPrice};
 
-fn store(choices: &mut u64, c: u64, number: u32) -> u32
+fn store(choices: &mut u64, price: &mut u32, c: u64, p: u32, number: u32) -> u32
     ensures { λ r. ⌜ r ≡ number ⌝ }
     ensures { λ _. ⌜ now (choices .exit) ≡ c ⌝ }
+    ensures { λ _. ⌜ now (price .exit) ≡ p ⌝ }
 {
     *choices = c;
+    *price = p;
     number
 }
 
-// The number of Repair's answer, and the choices that it carries stored.
-fn store_answer(answer: Answer, choices: &mut u64) -> u32
+// The number of Repair's answer, and the choices and the price that it carries stored, 0 for none and spent.
+fn store_answer(answer: Answer, choices: &mut u64, price: &mut u32) -> u32
     ensures { λ r. ⌜ r ≡ answerNumber answer ⌝ }
     ensures { λ _. ⌜ now (choices .exit) ≡ repairChoices answer (now (choices .entry)) ⌝ }
+    ensures { λ _. ⌜ now (price .exit) ≡ repairPrice answer (now (price .entry)) ⌝ }
 {
     match answer {
-        Answer::Found(c) => store(choices, c, 0),
-        Answer::None(c) => store(choices, c, 14),
-        Answer::Spent(c) => store(choices, c, 15),
+        Answer::Found(p, c) => store(choices, price, c, p, 0),
+        Answer::None(c) => store(choices, price, c, 0, 14),
+        Answer::Spent(c) => store(choices, price, c, 0, 15),
         Answer::Refused(refusal) => table::refusal_number(refusal),
     }
 }
 
-// 0 found, 14 none or 15 spent, and the choices stored; or the refusal's number and nothing stored or written.
+// 0 found, 14 none or 15 spent, and the choices and the price stored; or the refusal's number and nothing stored or written.
 #[no_mangle]
 pub extern "C" fn fitter_repair(
     table: &[u8],
@@ -42,14 +45,20 @@ pub extern "C" fn fitter_repair(
     bytes: &mut [u8],
     words: &mut [u32],
     choices: &mut u64,
+    price: &mut u32,
 ) -> u32
     ensures { λ r. ⌜ r ≡ answerNumber (repairAnswer (now (table .entry)) cap (now (list .entry)) (now (bytes .entry)) (now (words .entry))) ⌝ }
     ensures { λ _. ⌜ now (list .exit) ≡ repairList (now (table .entry)) cap (now (list .entry)) (now (bytes .entry)) (now (words .entry)) ⌝ }
     ensures { λ _. ⌜ now (bytes .exit) ≡ repairBytes (now (table .entry)) cap (now (list .entry)) (now (bytes .entry)) (now (words .entry)) ⌝ }
     ensures { λ _. ⌜ now (words .exit) ≡ repairWords (now (table .entry)) cap (now (list .entry)) (now (bytes .entry)) (now (words .entry)) ⌝ }
     ensures { λ _. ⌜ now (choices .exit) ≡ repairChoices (repairAnswer (now (table .entry)) cap (now (list .entry)) (now (bytes .entry)) (now (words .entry))) (now (choices .entry)) ⌝ }
+    ensures { λ _. ⌜ now (price .exit) ≡ repairPrice (repairAnswer (now (table .entry)) cap (now (list .entry)) (now (bytes .entry)) (now (words .entry))) (now (price .entry)) ⌝ }
 {
-    store_answer(repair::repair(table, cap, list, bytes, words), choices)
+    store_answer(
+        repair::repair(table, cap, list, bytes, words),
+        choices,
+        price,
+    )
 }
 
 // 0 where the list is a repair of the table in the narrower sense, else the refusal's number.

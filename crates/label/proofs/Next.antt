@@ -14,7 +14,7 @@ use Rattle.sets.proofs.Laws.{member-zero, member-and}
 use Rattle.sets.proofs.SetOf.{setOf-lt, member-setOf-below, setOf-cong, some-member}
 use Rattle.table.specs.declared.record.Step.{Step}
 use Rattle.table.specs.Table.{Table}
-use Rattle.table.specs.Accept.{all, any, sameStep}
+use Rattle.table.specs.Accept.{all, any, joins}
 use Rattle.table.specs.Facts.{Wellformed}
 use Rattle.table.specs.Rows.{Rows}
 use Rattle.table.proofs.Bools.{eqb-sym, same-test}
@@ -34,7 +34,7 @@ pub record KeptRows (T : Table) (list rows : List ℕ) : Type 0 where
 -- ---- a row, and the list of the next states that it stands for
 
 -- a step from s to t is among xs when t is one of the ends from s
-any-ends : (xs : List Step) (s t : ℕ) → any (sameStep (record { from = s; to = t })) xs ≡ any (eqb t) (endsFrom xs s)
+any-ends : (xs : List Step) (s t : ℕ) → any (joins s t) xs ≡ any (eqb t) (endsFrom xs s)
 unfolding any endsFrom
 any-ends [] s t = refl
 any-ends (x ∷ xs) s t =

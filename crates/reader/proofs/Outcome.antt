@@ -63,8 +63,8 @@ pub length-back : (v : Verdict) (table : List ℕ) (k : ℕ) → answer v table 
 length-back Accepted table k e = (refl, cc)
 length-back (Refused q) table k e = absurd (let z : _≡_ {A = ℕ} 0 1 = cc in omega arith)
 
--- a table of more than 452 bytes has a count out of its range
-pub too-long : (v : Sheet) → InRange v → 452 < packedLength (v .counts) → tableVerdict (pack v) ≡ Refused CountsRefused
+-- a table of more than 580 bytes has a count out of its range
+pub too-long : (v : Sheet) → InRange v → 580 < packedLength (v .counts) → tableVerdict (pack v) ≡ Refused CountsRefused
 unfolding tableVerdict
 too-long v h l =
     let n = pack-length v h in

@@ -62,7 +62,7 @@ module _ (v : Sheet) (h : InRange v) where
   states-length = bytes-length packState 3 (λ s. refl) (v .states) ∙ ap (λ (n : ℕ). 3 * n) (h .states-count)
 
   steps-length : length steps-bytes ≡ stepWidth * v .counts .steps
-  steps-length = bytes-length packStep 2 (λ s. refl) (v .steps) ∙ ap (λ (n : ℕ). 2 * n) (h .steps-count)
+  steps-length = bytes-length packStep 3 (λ s. refl) (v .steps) ∙ ap (λ (n : ℕ). 3 * n) (h .steps-count)
 
   nodes-length : length nodes-bytes ≡ nodeWidth * v .counts .nodes
   nodes-length = bytes-length packNode 3 (λ s. refl) (v .nodes) ∙ ap (λ (n : ℕ). 3 * n) (h .nodes-count)
@@ -117,7 +117,7 @@ module _ (v : Sheet) (h : InRange v) where
   table-pack i =
       record {
         states = records-of stateOf packState 3 (λ s. refl) state-same (v .counts .states) (statesPart (pack v)) (v .states) (h .states-count) states-packed i;
-        steps = records-of stepOf packStep 2 (λ s. refl) (λ s rest. refl) (v .counts .steps) (stepsPart (pack v)) (v .steps) (h .steps-count) steps-packed i;
+        steps = records-of stepOf packStep 3 (λ s. refl) (λ s rest. refl) (v .counts .steps) (stepsPart (pack v)) (v .steps) (h .steps-count) steps-packed i;
         nodes = records-of nodeOf packNode 3 (λ s. refl) (λ s rest. refl) (v .counts .nodes) (nodesPart (pack v)) (v .nodes) (h .nodes-count) nodes-packed i;
         props = v .counts .props;
       }

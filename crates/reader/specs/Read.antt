@@ -27,7 +27,7 @@ abbrev pub packState : State → List ℕ
 packState s = s .initial ∷ s .label % 256 ∷ s .label / 256 ∷ []
 
 abbrev pub packStep : Step → List ℕ
-packStep x = x .from ∷ x .to ∷ []
+packStep x = x .from ∷ x .to ∷ x .price ∷ []
 
 abbrev pub packNode : Node → List ℕ
 packNode x = x .kind ∷ x .a ∷ x .b ∷ []

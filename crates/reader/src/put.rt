@@ -36,6 +36,7 @@ pub fn put_step(packed: &mut [u8], at: usize, x: Step)
 {
     packed[at] = x.from as u8;
     packed[at + 1] = x.to as u8;
+    packed[at + 2] = x.price as u8;
 }
 
 pub fn put_node(packed: &mut [u8], at: usize, x: Node)

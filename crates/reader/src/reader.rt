@@ -12,7 +12,7 @@ ghost use mathlib.Core.Path.{_≡_};
 ghost use Rattle.reader.specs.Read.{readAnswer, readBuffer};
 
 // The length of the longest table.
-const LONGEST: usize = 452;
+const LONGEST: usize = 580;
 
 // Test 1 first, over the whole text. A table longer than the longest has a count out of its range, 3. Else the values are packed
 // into zero bytes of the reader's own, 3 to 8 are tested there, then 10, and only then the lent buffer is written.
@@ -27,7 +27,7 @@ pub fn read(text: &[u8], out: &mut [u8]) -> Read
     if LONGEST < length {
         return Read::Refused(Refusal::Counts);
     }
-    let mut packed = [0u8; 452];
+    let mut packed = [0u8; 580];
     pack_sheet(text, counts, states, steps, nodes, &mut packed);
     if let Verdict::Refused(refusal) = check_table(&packed[..length]) {
         return Read::Refused(refusal);

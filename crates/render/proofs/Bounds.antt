@@ -37,25 +37,27 @@ unfolding line
 state-line-length s h =
     omega (arith, length-append (ended 32 (s .initial)) (ended 10 (s .label)), ended-length 32 (s .initial), ended-length 10 (s .label), byte-digits (s .initial) (h .initial), word-digits (s .label) (h .label))
 
-step-line-length : (x : Step) → StepInRange x → length (stepLine x) ≤ 8
+-- a line of three bytes
+triple-length : (a b c : ℕ) → a ≤ 255 → b ≤ 255 → c ≤ 255 → length (line (a ∷ b ∷ c ∷ [])) ≤ 12
 unfolding line
-step-line-length x h =
-    omega (arith, length-append (ended 32 (x .from)) (ended 10 (x .to)), ended-length 32 (x .from), ended-length 10 (x .to), byte-digits (x .from) (h .from), byte-digits (x .to) (h .to))
-
-node-line-length : (x : Node) → NodeInRange x → length (nodeLine x) ≤ 12
-unfolding line
-node-line-length x h =
+triple-length a b c ha hb hc =
     omega (
       arith,
-      length-append (ended 32 (x .kind)) (ended 32 (x .a) ++ ended 10 (x .b)),
-      length-append (ended 32 (x .a)) (ended 10 (x .b)),
-      ended-length 32 (x .kind),
-      ended-length 32 (x .a),
-      ended-length 10 (x .b),
-      byte-digits (x .kind) (h .kind),
-      byte-digits (x .a) (h .a),
-      byte-digits (x .b) (h .b),
+      length-append (ended 32 a) (ended 32 b ++ ended 10 c),
+      length-append (ended 32 b) (ended 10 c),
+      ended-length 32 a,
+      ended-length 32 b,
+      ended-length 10 c,
+      byte-digits a ha,
+      byte-digits b hb,
+      byte-digits c hc,
     )
+
+step-line-length : (x : Step) → StepInRange x → length (stepLine x) ≤ 12
+step-line-length x h = triple-length (x .from) (x .to) (x .price) (h .from) (h .to) (h .price)
+
+node-line-length : (x : Node) → NodeInRange x → length (nodeLine x) ≤ 12
+node-line-length x h = triple-length (x .kind) (x .a) (x .b) (h .kind) (h .a) (h .b)
 
 counts-line-length : (c : Counts) → CountsInRange c → length (countsLine c) ≤ 16
 unfolding line
@@ -81,12 +83,12 @@ lines-length P f most each [] h = omega arith
 lines-length P f most each (x ∷ xs) h =
     omega (arith, length-append (f x) (bytesOf f xs), each x (h .0), lines-length P f most each xs (h .1), mul-suc most (length xs))
 
--- at most 1800 bytes
-pub sheet-length : (v : Sheet) → InRange v → v .counts .states ≤ 32 → v .counts .steps ≤ 128 → v .counts .nodes ≤ 32 → length (render v) ≤ 1800
+-- at most 2318 bytes
+pub sheet-length : (v : Sheet) → InRange v → v .counts .states ≤ 32 → v .counts .steps ≤ 128 → v .counts .nodes ≤ 32 → length (render v) ≤ 2318
 sheet-length v h n e f =
     let c = counts-line-length (v .counts) (h .counts) in
     let s = lines-length StateInRange stateLine 10 state-line-length (v .states) (h .states) in
-    let x = lines-length StepInRange stepLine 8 step-line-length (v .steps) (h .steps) in
+    let x = lines-length StepInRange stepLine 12 step-line-length (v .steps) (h .steps) in
     let z = lines-length NodeInRange nodeLine 12 node-line-length (v .nodes) (h .nodes) in
     let ns = h .states-count in
     let nx = h .steps-count in

@@ -1,31 +1,13 @@
 -- The sheet of packed bytes is in range, since a byte is below 256.
-use Prim.Native.Nat.{ℕ, zero, suc, _+_, _*_, _<_}
-use mathlib.Core.Path.{sym, subst}
-use mathlib.Core.List.{List, [], _∷_}
+use Prim.Native.Nat.{ℕ, zero, suc, _+_, _*_}
+use mathlib.Core.List.{List}
 use native.Mathlib.Omega.{arith}
-use lib.ListN.{getD, take, drop}
-use lib.Seq.{getD-drop}
+use lib.ListN.{drop}
 use Rattle.table.specs.Table.{records, countsOf, stateOf, stepOf, nodeOf, headerWidth, stateWidth, stepWidth, nodeWidth, statesPart, stepsPart, nodesPart}
 use Rattle.table.proofs.Records.{records-length}
+use Rattle.table.proofs.Bytes.{Bytes, bytes-drop, bytes-part}
 use Rattle.sheet.specs.Form.{StateInRange, StepInRange, NodeInRange, InRange, Every}
 use Rattle.render.specs.Render.{sheetOf}
-
--- every element is a byte
-abbrev pub Bytes : List ℕ → Type 0
-Bytes l = (i : ℕ) → getD l i 0 < 256
-
--- and so is every element of a part
-pub bytes-drop : (n : ℕ) (l : List ℕ) → Bytes l → Bytes (drop n l)
-bytes-drop n l h i = subst (λ (b : ℕ). b < 256) (sym (getD-drop n l i 0)) (h (n + i))
-
-pub bytes-take : (n : ℕ) (l : List ℕ) → Bytes l → Bytes (take n l)
-bytes-take zero l h i = omega arith
-bytes-take (suc n) [] h i = h i
-bytes-take (suc n) (x ∷ l) h zero = h zero
-bytes-take (suc n) (x ∷ l) h (suc i) = bytes-take n l (λ j. h (suc j)) i
-
-pub bytes-part : (size start : ℕ) (l : List ℕ) → Bytes l → Bytes (take size (drop start l))
-bytes-part size start l h = bytes-take size (drop start l) (bytes-drop start l h)
 
 -- what holds of each record that bytes can make holds of all records
 pub records-every : {A : Type 0} (P : A → Type 0) (read : List ℕ → A) (width : ℕ) → ((l : List ℕ) → Bytes l → P (read l)) → (count : ℕ) (l : List ℕ) → Bytes l → Every P (records read width count l)
@@ -37,7 +19,7 @@ state-range : (l : List ℕ) → Bytes l → StateInRange (stateOf l)
 state-range l h = record { initial = omega (arith, h 0); label = omega (arith, h 1, h 2) }
 
 step-range : (l : List ℕ) → Bytes l → StepInRange (stepOf l)
-step-range l h = record { from = omega (arith, h 0); to = omega (arith, h 1) }
+step-range l h = record { from = omega (arith, h 0); to = omega (arith, h 1); price = omega (arith, h 2) }
 
 node-range : (l : List ℕ) → Bytes l → NodeInRange (nodeOf l)
 node-range l h = record { kind = omega (arith, h 0); a = omega (arith, h 1); b = omega (arith, h 2) }

@@ -11,6 +11,7 @@ use Rattle.table.specs.declared.refusal.Verdict.the-variants.{Accepted}
 use Rattle.table.specs.Table.{records, countsOf, packedLength, stateOf, stepOf, nodeOf, statesPart, stepsPart, nodesPart, stateWidth, stepWidth, nodeWidth, headerWidth}
 use Rattle.table.specs.Accept.{tableVerdict}
 use Rattle.table.proofs.Accepted.{header-accepted}
+use Rattle.table.proofs.Bytes.{Bytes, bytes-drop, bytes-part}
 use Rattle.reader.specs.declared.answer.Read.the-variants.{Length}
 use Rattle.sheet.specs.Form.{Sheet, InRange, bytesOf, render}
 use Rattle.sheet.specs.Parse.{parse}
@@ -19,7 +20,7 @@ use Rattle.sheet.proofs.Whole.{parse-exact, parse-render}
 use Rattle.reader.proofs.Packed.{counts-pack, table-pack}
 use Rattle.reader.proofs.Outcome.{accepted-read}
 use Rattle.render.specs.Render.{sheetOf}
-use Rattle.render.proofs.Ranges.{Bytes, bytes-drop, bytes-part, sheet-range}
+use Rattle.render.proofs.Ranges.{sheet-range}
 
 -- records read from bytes are packed into the same bytes
 module _ {A : Type 0} (f : A → List ℕ) (read : List ℕ → A) (width : ℕ) (same : (l : List ℕ) → width ≤ length l → Bytes l → f (read l) ≡ take width l) where
@@ -40,10 +41,11 @@ state-again (x ∷ (y ∷ (z ∷ l))) h b =
     let high : (y + 256 * z) / 256 ≡ z = omega (arith, b 1) in
     ap₂ (λ (p q : ℕ). x ∷ p ∷ q ∷ []) low high
 
-step-again : (l : List ℕ) → 2 ≤ length l → Bytes l → packStep (stepOf l) ≡ take 2 l
+step-again : (l : List ℕ) → 3 ≤ length l → Bytes l → packStep (stepOf l) ≡ take 3 l
 step-again [] h b = absurd (omega arith)
 step-again (x ∷ []) h b = absurd (omega arith)
-step-again (x ∷ (y ∷ l)) h b = refl
+step-again (x ∷ (y ∷ [])) h b = absurd (omega arith)
+step-again (x ∷ (y ∷ (z ∷ l))) h b = refl
 
 node-again : (l : List ℕ) → 3 ≤ length l → Bytes l → packNode (nodeOf l) ≡ take 3 l
 node-again [] h b = absurd (omega arith)

@@ -1,4 +1,4 @@
--- 01's sheet is written from its 36 bytes.
+-- 01's sheet is written from its 40 bytes.
 use mathlib.Core.Path.{_≡_, refl}
 use Rattle.table.specs.Table.{records}
 use Rattle.sheet.specs.Form.{digits, decimal, line, bytesOf, render}

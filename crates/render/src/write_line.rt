@@ -32,8 +32,7 @@ pub fn write_step(text: &mut [u8], at: usize, x: Step) -> usize
     requires { ⌜ Room (now text) at (stepLine x) ⌝ }
     ensures { λ r. ⌜ Stored (now (text .entry)) at (stepLine x) (now (text .exit)) r ⌝ }
 {
-    let second = put_field(text, at, x.from, SPACE);
-    put_field(text, second, x.to, NEWLINE)
+    write_triple(text, at, x.from, x.to, x.price)
 }
 
 pub fn write_node(text: &mut [u8], at: usize, x: Node) -> usize

@@ -46,7 +46,7 @@ pub fn render_table(table: &[u8], out: &mut [u8]) -> Rendered
     if let Verdict::Refused(refusal) = check_table(table) {
         return Rendered::Refused(refusal);
     }
-    let mut text = [0u8; 1800];
+    let mut text = [0u8; 2318];
     let length = write_sheet(table, &mut text);
     if out.len() < length {
         return Rendered::Refused(Refusal::ShortBuffer);

@@ -15,26 +15,26 @@ use Rattle.repair.specs.Outcome.{answerOf, answerAt}
 
 -- refused, so a test refused
 pub refused-back : (v : Verdict) (o : Outcome) (r : Refusal) → answerAt v o ≡ AnswerRefused r → v ≡ Refused r
-refused-back Accepted (found m c) r e = absurd (let z : _≡_ {A = ℕ} 0 1 = cc in omega arith)
+refused-back Accepted (found m p c) r e = absurd (let z : _≡_ {A = ℕ} 0 1 = cc in omega arith)
 refused-back Accepted (none c) r e = absurd (let z : _≡_ {A = ℕ} 0 1 = cc in omega arith)
 refused-back Accepted (spent c) r e = absurd (let z : _≡_ {A = ℕ} 0 1 = cc in omega arith)
 refused-back (Refused q) o r e = cc
 
 -- found, none or spent, so every test passed and the search says so
-pub found-back : (v : Verdict) (o : Outcome) (c : ℕ) → answerAt v o ≡ Found c → (v ≡ Accepted) × ((m : Marks) × (o ≡ found m c))
-found-back Accepted (found m k) c e = (refl, (m, cc))
-found-back Accepted (none k) c e = absurd (let z : _≡_ {A = ℕ} 0 1 = cc in omega arith)
-found-back Accepted (spent k) c e = absurd (let z : _≡_ {A = ℕ} 0 1 = cc in omega arith)
-found-back (Refused q) o c e = absurd (let z : _≡_ {A = ℕ} 0 1 = cc in omega arith)
+pub found-back : (v : Verdict) (o : Outcome) (p c : ℕ) → answerAt v o ≡ Found p c → (v ≡ Accepted) × ((m : Marks) × (o ≡ found m p c))
+found-back Accepted (found m q k) p c e = (refl, (m, cc))
+found-back Accepted (none k) p c e = absurd (let z : _≡_ {A = ℕ} 0 1 = cc in omega arith)
+found-back Accepted (spent k) p c e = absurd (let z : _≡_ {A = ℕ} 0 1 = cc in omega arith)
+found-back (Refused q) o p c e = absurd (let z : _≡_ {A = ℕ} 0 1 = cc in omega arith)
 
 pub none-back : (v : Verdict) (o : Outcome) (c : ℕ) → answerAt v o ≡ None c → (v ≡ Accepted) × (o ≡ none c)
-none-back Accepted (found m k) c e = absurd (let z : _≡_ {A = ℕ} 0 1 = cc in omega arith)
+none-back Accepted (found m q k) c e = absurd (let z : _≡_ {A = ℕ} 0 1 = cc in omega arith)
 none-back Accepted (none k) c e = (refl, cc)
 none-back Accepted (spent k) c e = absurd (let z : _≡_ {A = ℕ} 0 1 = cc in omega arith)
 none-back (Refused q) o c e = absurd (let z : _≡_ {A = ℕ} 0 1 = cc in omega arith)
 
 pub spent-back : (v : Verdict) (o : Outcome) (c : ℕ) → answerAt v o ≡ Spent c → (v ≡ Accepted) × (o ≡ spent c)
-spent-back Accepted (found m k) c e = absurd (let z : _≡_ {A = ℕ} 0 1 = cc in omega arith)
+spent-back Accepted (found m q k) c e = absurd (let z : _≡_ {A = ℕ} 0 1 = cc in omega arith)
 spent-back Accepted (none k) c e = absurd (let z : _≡_ {A = ℕ} 0 1 = cc in omega arith)
 spent-back Accepted (spent k) c e = (refl, cc)
 spent-back (Refused q) o c e = absurd (let z : _≡_ {A = ℕ} 0 1 = cc in omega arith)
@@ -46,6 +46,6 @@ choices-back (Refused q) o c e = absurd (let z : _≡_ {A = ℕ} 0 1 = cc in ome
 
 -- the choices are the search's
 pub choices-of : (o : Outcome) → answerChoices (answerOf o) ≡ some (choices o)
-choices-of (found m c) = refl
+choices-of (found m p c) = refl
 choices-of (none c) = refl
 choices-of (spent c) = refl

@@ -1,4 +1,4 @@
-// Repair: the first repair of a table, searched for under a cap and struck, in buffers that the caller lends.
+// Repair: the cheapest repair of a table, searched for under a cap and struck, in buffers that the caller lends.
 mod answer;
 mod clear;
 mod net;

@@ -22,7 +22,7 @@ module _ (text : List ℕ) where
   too-long h = ap (λ (b : Bool). limited b text) (lt-leb (length text) 4096 h)
 
   -- read, with an answer and a buffer
-  pub text-read : length text ≤ 4096 → (r : Read) (buffer : List ℕ) → r ≡ readAnswer text (zeros 452) → buffer ≡ readBuffer text (zeros 452) → fitText text ≡ readText r buffer
+  pub text-read : length text ≤ 4096 → (r : Read) (buffer : List ℕ) → r ≡ readAnswer text (zeros 580) → buffer ≡ readBuffer text (zeros 580) → fitText text ≡ readText r buffer
   unfolding fitText
   text-read h r buffer e k = ap (λ (b : Bool). limited b text) (le-leb (length text) 4096 h) ∙ (λ i. readText (sym e i) (sym k i))
 

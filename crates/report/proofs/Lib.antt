@@ -1,7 +1,7 @@
 pub mod Kept
 pub mod Accepted
 pub mod Bits
-pub mod FewChoices
+pub mod AtMost
 pub mod Fits
 pub mod Cases
 pub mod Samples

@@ -6,6 +6,7 @@ use Rattle.table.specs.Table.{records}
 use Rattle.table.specs.Accept.{all, any, distinct, nodesFit, tableVerdict}
 use Rattle.ctl.specs.Levels.{tabulate, select, iterate, nextIn, level, levels}
 use Rattle.ctl.specs.Labels.{keptSteps, endsFrom}
+use Rattle.ctl.specs.Price.{sumBelow}
 use Rattle.ctl.specs.Reached.{reachedSet, strike}
 use Rattle.circuit.specs.Logic.{gateClauses}
 use Rattle.circuit.specs.Variables.{concat, outOf, nodeVariables, variables, costs, variableFormula}
@@ -23,5 +24,5 @@ use Rattle.report.specs.Report.{keptLines, tableText, fitText}
 use Rattle.report.specs.Samples.{Sample, samples}
 
 pub samples-printed : map (λ (s : Sample). fitText (s .sheet)) samples ≡ map (λ (s : Sample). s .output) samples
-unfolding member records all any distinct nodesFit tableVerdict tabulate select iterate nextIn level levels keptSteps endsFrom reachedSet strike gateClauses concat outOf nodeVariables variables costs variableFormula nodeGates gates demands clauses open-in take-clause round rounds marksOf sameCode place numberedClauses walk search tableSearch digits decimal line bytesOf exactly digitsUpTo field times sheetParser parse pack readVerdict repairVerdict keptLines tableText fitText
+unfolding member records all any distinct nodesFit tableVerdict tabulate select iterate nextIn level levels keptSteps endsFrom sumBelow reachedSet strike gateClauses concat outOf nodeVariables variables costs variableFormula nodeGates gates demands clauses open-in take-clause round rounds marksOf sameCode place numberedClauses walk search tableSearch digits decimal line bytesOf exactly digitsUpTo field times sheetParser parse pack readVerdict repairVerdict keptLines tableText fitText
 samples-printed = refl

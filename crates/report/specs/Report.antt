@@ -1,6 +1,5 @@
--- 01, "The sheet": what program `fit` prints, for every text that it reads.
+-- 01, "The sheet", as 02's A4 has it: what program `fit` prints, for every text that it reads.
 use Prim.Native.Nat.{ℕ}
-use Prim.Native.String.{String}
 use mathlib.Core.Bool.{Bool, true, false}
 use mathlib.Core.List.{List, [], _∷_, _++_}
 use lib.Dec.{leb}
@@ -18,16 +17,12 @@ use Rattle.repair.specs.declared.answer.Answer.{Answer}
 use Rattle.repair.specs.declared.answer.Answer.the-variants.{Found, None, Spent, Refused}
 use Rattle.repair.specs.Outcome.{repairAnswer, repairList}
 
--- a line of names, then a word and a number
-abbrev pub answerLines : List ℕ → List ℕ → ℕ → List ℕ
-answerLines names word number = names ++ (word ++ line (number ∷ []))
-
--- found, none and spent come with the choices, refused with the refusal's number
-abbrev pub counted : String → ℕ → List ℕ
-counted word choices = answerLines (ascii "answer choices\n") (ascii word) choices
+-- found, none and spent come with the choices and the price, refused with the refusal's number
+abbrev pub counted : List ℕ → ℕ → ℕ → List ℕ
+counted word choices price = ascii "answer choices price\n" ++ (word ++ line (choices ∷ price ∷ []))
 
 abbrev pub refused : Refusal → List ℕ
-refused r = answerLines (ascii "answer number\n") (ascii "refused ") (refusalNumber r)
+refused r = ascii "answer number\nrefused " ++ line (refusalNumber r ∷ [])
 
 -- a line for each step: from, to, and 1 kept or 0 struck
 abbrev pub keptLine : Step → ℕ → List ℕ
@@ -38,11 +33,11 @@ keptLines [] list = []
 keptLines (x ∷ steps) [] = []
 keptLines (x ∷ steps) (kept ∷ list) = keptLine x kept ++ keptLines steps list
 
--- what is printed of Repair's answer and of the list that it leaves
+-- what is printed of Repair's answer and of the list that it leaves: "price 0 for none and spent"
 abbrev pub answerText : List ℕ → Answer → List ℕ → List ℕ
-answerText table (Found choices) list = counted "found " choices ++ (ascii "from to kept\n" ++ keptLines (stepsOf table) list)
-answerText table (None choices) list = counted "none " choices
-answerText table (Spent choices) list = counted "spent " choices
+answerText table (Found price choices) list = counted (ascii "found ") choices price ++ (ascii "from to kept\n" ++ keptLines (stepsOf table) list)
+answerText table (None choices) list = counted (ascii "none ") choices 0
+answerText table (Spent choices) list = counted (ascii "spent ") choices 0
 answerText table (Refused r) list = refused r
 
 -- 128 list bytes and 10,000 work entries, all zero at first, and the cap
@@ -63,9 +58,9 @@ abbrev pub readText : Read → List ℕ → List ℕ
 readText (Length k) buffer = tableText (take k buffer)
 readText (ReadRefused r) buffer = refused r
 
--- a text of at most 4,096 bytes is read into 452 bytes, a longer one is refused with 1
+-- a text of at most 4,096 bytes is read into 580 bytes, a longer one is refused with 1
 abbrev pub limited : Bool → List ℕ → List ℕ
-limited true text = readText (readAnswer text (zeros 452)) (readBuffer text (zeros 452))
+limited true text = readText (readAnswer text (zeros 580)) (readBuffer text (zeros 580))
 limited false text = refused SheetForm
 
 unfoldable pub fitText : List ℕ → List ℕ

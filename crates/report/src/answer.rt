@@ -2,7 +2,9 @@
 use crate::lines::write_answer;
 use crate::steps::write_steps;
 use render::put_bytes;
+use render::put_field;
 use repair::Answer;
+use sheet::NEWLINE;
 use table::Refusal;
 use table::counts_of;
 use table::refusal_number;
@@ -18,21 +20,18 @@ pub fn write_refused(out: &mut [u8], refusal: Refusal) -> usize
     requires { ⌜ Room (now out) 0 (refused refusal) ⌝ }
     ensures { λ r. ⌜ Stored (now (out .entry)) 0 (refused refusal) (now (out .exit)) r ⌝ }
 {
-    write_answer(
-        out,
-        b"answer number\n",
-        b"refused ",
-        refusal_number(refusal) as usize,
-    )
+    let number = refusal_number(refusal);
+    let at = put_bytes(out, 0, b"answer number\nrefused ");
+    put_field(out, at, number as usize, NEWLINE)
 }
 
-fn write_found(table: &[u8], choices: u64, list: &[u8], out: &mut [u8]) -> usize
+fn write_found(table: &[u8], price: u32, choices: u64, list: &[u8], out: &mut [u8]) -> usize
     requires { ⌜ countsOf (now table) .steps ≤ length (now list) ⌝ }
-    requires { ⌜ Room (now out) 0 (answerText (now table) (Found choices) (now list)) ⌝ }
-    ensures { λ r. ⌜ Stored (now (out .entry)) 0 (answerText (now (table .entry)) (Found choices) (now (list .entry))) (now (out .exit)) r ⌝ }
+    requires { ⌜ Room (now out) 0 (answerText (now table) (Found price choices) (now list)) ⌝ }
+    ensures { λ r. ⌜ Stored (now (out .entry)) 0 (answerText (now (table .entry)) (Found price choices) (now (list .entry))) (now (out .exit)) r ⌝ }
 {
     let c = counts_of(table);
-    let third = write_answer(out, b"answer choices\n", b"found ", choices as usize);
+    let third = write_answer(out, b"found ", choices as usize, price as usize);
     let at = put_bytes(out, third, b"from to kept\n");
     write_steps(steps_part(table), c.steps, list, out, at)
 }
@@ -43,9 +42,9 @@ pub fn write_result(table: &[u8], answer: Answer, list: &[u8], out: &mut [u8]) -
     ensures { λ r. ⌜ Stored (now (out .entry)) 0 (answerText (now (table .entry)) answer (now (list .entry))) (now (out .exit)) r ⌝ }
 {
     match answer {
-        Answer::Found(c) => write_found(table, c, list, out),
-        Answer::None(c) => write_answer(out, b"answer choices\n", b"none ", c as usize),
-        Answer::Spent(c) => write_answer(out, b"answer choices\n", b"spent ", c as usize),
+        Answer::Found(p, c) => write_found(table, p, c, list, out),
+        Answer::None(c) => write_answer(out, b"none ", c as usize, 0),
+        Answer::Spent(c) => write_answer(out, b"spent ", c as usize, 0),
         Answer::Refused(refusal) => write_refused(out, refusal),
     }
 }

@@ -43,7 +43,7 @@ pub fn fit_report(text: &[u8], out: &mut [u8]) -> usize
     if MOST < text.len() {
         return write_refused(out, Refusal::SheetForm);
     }
-    let mut table = [0u8; 452];
+    let mut table = [0u8; 580];
     match reader::read(text, &mut table) {
         Read::Length(n) => report_table(&table[..n], out),
         Read::Refused(refusal) => write_refused(out, refusal),

@@ -1,15 +1,17 @@
-// The two lines that every answer begins with.
+// The two lines that found, none and spent begin with.
 use render::put_bytes;
 use render::put_field;
 use sheet::NEWLINE;
+use sheet::SPACE;
 ghost use Rattle.render.specs.Render.{Room, Stored};
-ghost use Rattle.report.specs.Report.{answerLines};
+ghost use Rattle.report.specs.Report.{counted};
 
-pub fn write_answer(text: &mut [u8], names: &[u8], word: &[u8], number: usize) -> usize
-    requires { ⌜ Room (now text) 0 (answerLines (now names) (now word) number) ⌝ }
-    ensures { λ r. ⌜ Stored (now (text .entry)) 0 (answerLines (now (names .entry)) (now (word .entry)) number) (now (text .exit)) r ⌝ }
+pub fn write_answer(text: &mut [u8], word: &[u8], choices: usize, price: usize) -> usize
+    requires { ⌜ Room (now text) 0 (counted (now word) choices price) ⌝ }
+    ensures { λ r. ⌜ Stored (now (text .entry)) 0 (counted (now (word .entry)) choices price) (now (text .exit)) r ⌝ }
 {
-    let second = put_bytes(text, 0, names);
+    let second = put_bytes(text, 0, b"answer choices price\n");
     let third = put_bytes(text, second, word);
-    put_field(text, third, number, NEWLINE)
+    let last = put_field(text, third, choices, SPACE);
+    put_field(text, last, price, NEWLINE)
 }

@@ -14,7 +14,7 @@ fn print_judged(table: &[u8], list: &[u8], sample: &[u8]) {
 }
 
 fn run_read() {
-    let mut out = [0u8; 452];
+    let mut out = [0u8; 580];
     let mut length = 0;
     let number = fitter::fitter_read(b"", &mut out, &mut length);
     print_sample(number, b"an empty text");
@@ -46,11 +46,11 @@ pub fn run_tables() {
         b"one state, initial 0",
     );
     print_refused(
-        b"\x02\x01\x01\x00\x01\x00\x00\x00\x00\x00\x00\x02\x01\x00\x00",
+        b"\x02\x01\x01\x00\x01\x00\x00\x00\x00\x00\x00\x02\x05\x01\x00\x00",
         b"two states, step 0 to 2",
     );
     print_refused(
-        b"\x02\x02\x01\x00\x01\x00\x00\x00\x00\x00\x00\x01\x00\x01\x01\x00\x00",
+        b"\x02\x02\x01\x00\x01\x00\x00\x00\x00\x00\x00\x01\x01\x00\x01\x02\x01\x00\x00",
         b"steps 0 1 and 0 1",
     );
     print_refused(
@@ -64,7 +64,7 @@ pub fn run_lists() {
     print_judged(&table, b"\x01\x01\x00", b"list 1 1 0 of four steps");
     run_short();
     print_judged(
-        b"\x02\x01\x01\x00\x01\x00\x00\x00\x00\x00\x00\x01\x01\x00\x00",
+        b"\x02\x01\x01\x00\x01\x00\x00\x00\x00\x00\x00\x01\x05\x01\x00\x00",
         b"\x01",
         b"one step 0 to 1, kept",
     );

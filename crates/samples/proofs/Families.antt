@@ -7,6 +7,7 @@ use Rattle.table.specs.Accept.{all, any, distinct, nodesFit, tableVerdict, list
 use Rattle.ctl.specs.Rule.{bottomUp}
 use Rattle.ctl.specs.Levels.{tabulate, iterate, nextIn, level, levels, select}
 use Rattle.ctl.specs.Labels.{keptSteps, endsFrom, labelOf, label}
+use Rattle.ctl.specs.Price.{sumBelow}
 use Rattle.ctl.specs.Reached.{reachedSet, strike}
 use Rattle.ctl.specs.Tests.{judgeVerdict}
 use Rattle.circuit.specs.Logic.{gateClauses}
@@ -21,5 +22,5 @@ use Rattle.samples.specs.Samples.{answers, passes}
 use Rattle.samples.specs.Families.{familyCases}
 
 pub families-pass : all passes familyCases ≡ true
-unfolding member records all any distinct nodesFit tableVerdict listVerdict bottomUp tabulate iterate nextIn level levels keptSteps endsFrom labelOf label reachedSet strike judgeVerdict gateClauses concat outOf nodeVariables variables nodeGates gates select demands clauses open-in take-clause round rounds marksOf walk search sameCode place numberedClauses tableSearch answers passes
+unfolding member records all any distinct nodesFit tableVerdict listVerdict bottomUp tabulate iterate nextIn level levels keptSteps endsFrom labelOf label sumBelow reachedSet strike judgeVerdict gateClauses concat outOf nodeVariables variables nodeGates gates select demands clauses open-in take-clause round rounds marksOf walk search sameCode place numberedClauses tableSearch answers passes
 families-pass = refl

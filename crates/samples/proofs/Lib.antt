@@ -1,3 +1,4 @@
 pub mod Samples
 pub mod Families
+pub mod Prices
 pub mod Holding

@@ -26,9 +26,9 @@ gives number count (Refused r) = eqb number (refusalNumber r)
 unfoldable pub writes : HoldingCase → Bool
 writes c = gives (c .number) (c .count) (holdingAnswer (c .table) (c .list) 5) && sameCode (holdingBuffer (c .table) (c .list) (replicate 5 9)) (c .after)
 
--- three states, of which these are initial; a loop at each; rule true
+-- three states, of which these are initial; a loop of price 1 at each; rule true
 abbrev pub loops : ℕ → ℕ → ℕ → List ℕ
-loops i j k = (3 ∷ 3 ∷ 1 ∷ 0 ∷ []) ++ (i ∷ 0 ∷ 0 ∷ j ∷ 0 ∷ 0 ∷ k ∷ 0 ∷ 0 ∷ []) ++ (0 ∷ 0 ∷ 1 ∷ 1 ∷ 2 ∷ 2 ∷ []) ++ (1 ∷ 0 ∷ 0 ∷ [])
+loops i j k = (3 ∷ 3 ∷ 1 ∷ 0 ∷ []) ++ (i ∷ 0 ∷ 0 ∷ j ∷ 0 ∷ 0 ∷ k ∷ 0 ∷ 0 ∷ []) ++ (0 ∷ 0 ∷ 1 ∷ 1 ∷ 1 ∷ 1 ∷ 2 ∷ 2 ∷ 1 ∷ []) ++ (1 ∷ 0 ∷ 0 ∷ [])
 
 abbrev pub held : List ℕ → List ℕ → ℕ → List ℕ → HoldingCase
 held table list count after = record { table = table; list = list; number = 0; count = count; after = after }

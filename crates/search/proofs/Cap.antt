@@ -1,4 +1,4 @@
--- The search under a cap is the search without one, cut at the cap; and without one it is never spent and makes few choices.
+-- The search under a cap is the search without one, cut at the cap; and without one it never reaches a cap and makes few choices.
 use Prim.Native.Nat.{ℕ, suc, _+_, _-_, _^_, _≤_, _<_, zero-le}
 use native.Mathlib.Nat.{pow-suc}
 use native.Mathlib.Omega.{arith}
@@ -11,156 +11,187 @@ use lib.ListN.{length}
 use lib.Pow.{pow-pos}
 use Rattle.circuit.specs.Logic.{Literal, pos, neg}
 use Rattle.closure.specs.Closure.{Marks, markAt, isKnown, Progress, clash, marked}
-use Rattle.search.specs.Search.{Outcome, found, none, spent, capped, uncapped, walk, search}
+use Rattle.search.specs.Search.{Best, unfound, find, undercuts, Walked, passed, cut, spent, answerOf, capped, uncapped, pursue, walk, search}
 use Rattle.search.specs.Right.{choices}
-use Rattle.search.proofs.Step.{chosen, orElse, walk-known, walk-unknown}
+use Rattle.search.proofs.Step.{pursued, chosen, andThen, walk-known, walk-unknown}
+
+-- the choices made by the end
+abbrev pub made : Walked → ℕ
+made (passed b c) = c
+made (cut c) = c
+
+choices-made : (w : Walked) → choices (answerOf w) ≡ made w
+choices-made (passed unfound c) = refl
+choices-made (passed (find m p) c) = refl
+choices-made (cut c) = refl
 
 -- ---- without a cap
 
--- what a search without a cap gives, from a count on, over so many steps: it is not spent, and its choices are bounded
-pub record Unspent (count size : ℕ) (o : Outcome) : Type 0 where
-  pub unspent : (c : ℕ) → ¬ (o ≡ spent c)
-  pub least : count ≤ choices o
-  pub most : choices o + 2 ≤ count + 2 ^ suc size
+-- what a search without a cap gives, from a count on, over so many steps: it is not cut, and its choices are bounded
+pub record Uncut (count size : ℕ) (w : Walked) : Type 0 where
+  pub uncut : (c : ℕ) → ¬ (w ≡ cut c)
+  pub least : count ≤ made w
+  pub most : made w + 2 ≤ count + 2 ^ suc size
 
-found-spent : (m : Marks) (b c : ℕ) → ¬ (found m b ≡ spent c)
-found-spent m b c e = let z : _≡_ {A = ℕ} 0 1 = cc in omega arith
+passed-cut : (b : Best) (c d : ℕ) → ¬ (passed b c ≡ cut d)
+passed-cut b c d e = let z : _≡_ {A = ℕ} 0 1 = cc in omega arith
 
-none-spent : (b c : ℕ) → ¬ (none b ≡ spent c)
-none-spent b c e = let z : _≡_ {A = ℕ} 0 1 = cc in omega arith
-
-two-more : (count size : ℕ) → count + 2 ≤ count + 2 ^ suc size
-two-more count size = omega (arith, pow-suc 2 size, pow-pos size)
+-- all is tried with no choice more
+passed-uncut : (b : Best) (count size : ℕ) → Uncut count size (passed b count)
+passed-uncut b count size = record { uncut = passed-cut b count; least = omega arith; most = omega (arith, pow-suc 2 size, pow-pos size) }
 
 -- the bound with one step more to pass
-step-more : (count size : ℕ) (o : Outcome) → Unspent count size o → Unspent count (suc size) o
-step-more count size o u = record { unspent = u .unspent; least = u .least; most = omega (arith, pow-suc 2 (suc size)) }
+step-more : (count size : ℕ) (w : Walked) → Uncut count size w → Uncut count (suc size) w
+step-more count size w u = record { uncut = u .uncut; least = u .least; most = omega (arith, pow-suc 2 (suc size)) }
 
--- one choice
-chosen-unspent : (size : ℕ) (onward : List (Literal ℕ) → Marks → ℕ → Outcome)
-    → ((Q : List (Literal ℕ)) (m : Marks) (c : ℕ) → Unspent c size (onward Q m c))
-    → (p : Progress) (Q : List (Literal ℕ)) (count : ℕ) → Unspent (suc count) size (chosen false p Q count onward)
-chosen-unspent size onward h clash Q count = record { unspent = none-spent (suc count); least = omega arith; most = two-more (suc count) size }
-chosen-unspent size onward h (marked m new) Q count = h Q m (suc count)
+module _ (size : ℕ) (onward : List (Literal ℕ) → Marks → Best → ℕ → Walked)
+    (h : (Q : List (Literal ℕ)) (m : Marks) (b : Best) (c : ℕ) → Uncut c size (onward Q m b c)) where
+  pursued-uncut : (p : Progress) (cheap : Marks → Bool) (Q : List (Literal ℕ)) (b : Best) (count : ℕ) → Uncut count size (pursued p cheap Q b count onward)
+  pursued-uncut clash cheap Q b count = passed-uncut b count size
+  pursued-uncut (marked m new) cheap Q b count = by (cheap m)
+    where
+      by : (x : Bool) → Uncut count size (elim x [ true ↦ onward Q m b count | false ↦ passed b count ])
+      by true = h Q m b count
+      by false = passed-uncut b count size
+
+  -- one choice
+  chosen-uncut : (p : Progress) (cheap : Marks → Bool) (Q : List (Literal ℕ)) (b : Best) (count : ℕ) → Uncut (suc count) size (chosen false p cheap Q b count onward)
+  chosen-uncut p cheap Q b count = pursued-uncut p cheap Q b (suc count)
 
 -- both choices of a step
-orElse-unspent : (count size : ℕ) (o : Outcome) (more : ℕ → Outcome) → Unspent (suc count) size o → ((c : ℕ) → Unspent (suc c) size (more c))
-    → Unspent count (suc size) (orElse o more)
-orElse-unspent count size (found m c) more u h =
-    record { unspent = found-spent m c; least = omega arith; most = omega (arith, pow-suc 2 (suc size), pow-suc 2 size, pow-pos size) }
-orElse-unspent count size (none c) more u h =
-    record { unspent = h c .unspent; least = omega (arith, h c .least); most = omega (arith, h c .most, pow-suc 2 (suc size)) }
-orElse-unspent count size (spent c) more u h = absurd (u .unspent c refl)
+both-uncut : (count size : ℕ) (w : Walked) (more : Best → ℕ → Walked) → Uncut (suc count) size w → ((b : Best) (c : ℕ) → Uncut (suc c) size (more b c))
+    → Uncut count (suc size) (andThen w more)
+both-uncut count size (passed b c) more u h =
+    record { uncut = h b c .uncut; least = omega (arith, h b c .least); most = omega (arith, h b c .most, pow-suc 2 (suc size)) }
+both-uncut count size (cut c) more u h = absurd (u .uncut c refl)
 
-module _ (close : List (Literal ℕ) → Progress) where
-  -- the walk without a cap is never spent, and over n steps makes at most 2 ^ (n + 1) - 2 choices more
-  pub walk-unspent : (steps : List ℕ) (P : List (Literal ℕ)) (m : Marks) (count : ℕ)
-      → Unspent count (length steps) (walk uncapped close steps P m count)
+module _ (close : List (Literal ℕ) → Progress) (price : Marks → ℕ) where
+  -- the walk without a cap is never cut, and over n steps makes at most 2 ^ (n + 1) - 2 choices more
+  pub walk-uncut : (steps : List ℕ) (P : List (Literal ℕ)) (m : Marks) (b : Best) (count : ℕ)
+      → Uncut count (length steps) (walk uncapped close price steps P m b count)
   unfolding walk
-  walk-unspent [] P m count = record { unspent = found-spent m count; least = omega arith; most = two-more count 0 }
-  walk-unspent (j ∷ js) P m count = by (isKnown (markAt m j)) refl (walk-unspent js)
+  walk-uncut [] P m b count = passed-uncut (find m (price m)) count 0
+  walk-uncut (j ∷ js) P m b count = by (isKnown (markAt m j)) refl (walk-uncut js)
     where
-      by : (b : Bool) → isKnown (markAt m j) ≡ b
-          → ((Q : List (Literal ℕ)) (m′ : Marks) (c : ℕ) → Unspent c (length js) (walk uncapped close js Q m′ c))
-          → Unspent count (suc (length js)) (walk uncapped close (j ∷ js) P m count)
-      by true e h = rw (walk-known uncapped close j js P m count e) (step-more count (length js) _ (h P m count))
-      by false e h = rw (walk-unknown uncapped close j js P m count e)
-          (orElse-unspent count (length js) _ _
-          (chosen-unspent (length js) _ h (close (pos j ∷ P)) (pos j ∷ P) count)
-          (chosen-unspent (length js) _ h (close (neg j ∷ P)) (neg j ∷ P)))
+      by : (x : Bool) → isKnown (markAt m j) ≡ x
+          → ((Q : List (Literal ℕ)) (m′ : Marks) (b′ : Best) (c : ℕ) → Uncut c (length js) (walk uncapped close price js Q m′ b′ c))
+          → Uncut count (suc (length js)) (walk uncapped close price (j ∷ js) P m b count)
+      by true e h = rw (walk-known uncapped close price j js P m b count e) (step-more count (length js) _ (h P m b count))
+      by false e h = rw (walk-unknown uncapped close price j js P m b count e)
+          (both-uncut count (length js) _ _
+          (chosen-uncut (length js) _ h (close (pos j ∷ P)) (λ n. undercuts (price n) b) (pos j ∷ P) b count)
+          (λ b′. chosen-uncut (length js) _ h (close (neg j ∷ P)) (λ n. undercuts (price n) b′) (neg j ∷ P) b′))
 
-  search-bound : (steps : List ℕ) → Unspent 0 (length steps) (search uncapped close steps)
-  unfolding search
-  search-bound steps = by (close [])
-    where
-      by : (p : Progress) → Unspent 0 (length steps) (elim p [ clash ↦ none 0 | marked m new ↦ walk uncapped close steps [] m 0 ])
-      by clash = record { unspent = none-spent 0; least = omega arith; most = two-more 0 (length steps) }
-      by (marked m new) = walk-unspent steps [] m 0
+  abbrev all-walked : (ℕ → Bool) → List ℕ → Walked
+  all-walked atCap steps = pursue close price [] unfound 0 (walk atCap close price steps)
+
+  search-bound : (steps : List ℕ) → Uncut 0 (length steps) (all-walked uncapped steps)
+  search-bound steps = pursued-uncut (length steps) (walk uncapped close price steps) (walk-uncut steps) (close []) (λ n. true) [] unfound 0
 
   -- the search without a cap is never spent
-  pub search-unspent : (steps : List ℕ) (c : ℕ) → ¬ (search uncapped close steps ≡ spent c)
-  search-unspent steps = search-bound steps .unspent
+  pub search-unspent : (steps : List ℕ) (c : ℕ) → ¬ (search uncapped close price steps ≡ spent c)
+  unfolding search
+  search-unspent steps c = by (all-walked uncapped steps) (search-bound steps .uncut)
+    where
+      by : (w : Walked) → ((d : ℕ) → ¬ (w ≡ cut d)) → ¬ (answerOf w ≡ spent c)
+      by (passed unfound d) u e = let z : _≡_ {A = ℕ} 0 1 = cc in omega arith
+      by (passed (find m p) d) u e = let z : _≡_ {A = ℕ} 0 1 = cc in omega arith
+      by (cut d) u e = u d refl
 
   -- its choices are at most 2 ^ (e + 1) - 2, of e steps
-  pub search-few : (steps : List ℕ) → choices (search uncapped close steps) ≤ 2 ^ suc (length steps) - 2
-  search-few steps = omega (arith, search-bound steps .most)
+  pub search-few : (steps : List ℕ) → choices (search uncapped close price steps) ≤ 2 ^ suc (length steps) - 2
+  unfolding search
+  search-few steps = omega (arith, search-bound steps .most, choices-made (all-walked uncapped steps))
 
 -- ---- under a cap
 
--- o is f cut at the cap: spent where f makes more choices, else the same
-pub data Cut (cap : ℕ) (o f : Outcome) : Type 0 where
-  over : cap < choices f → o ≡ spent cap → Cut cap o f
-  within : choices f ≤ cap → o ≡ f → Cut cap o f
+-- w is f cut at the cap: cut where f makes more choices, else the same
+pub data Capped (cap : ℕ) (w f : Walked) : Type 0 where
+  over : cap < made f → w ≡ cut cap → Capped cap w f
+  within : made f ≤ cap → w ≡ f → Capped cap w f
 
 module _ (cap : ℕ) where
-  -- one choice
-  chosen-cut : (size : ℕ) (onward free : List (Literal ℕ) → Marks → ℕ → Outcome)
-      → ((Q : List (Literal ℕ)) (m : Marks) (c : ℕ) → c ≤ cap → Cut cap (onward Q m c) (free Q m c))
-      → ((Q : List (Literal ℕ)) (m : Marks) (c : ℕ) → Unspent c size (free Q m c))
-      → (p : Progress) (Q : List (Literal ℕ)) (count : ℕ) → count ≤ cap
-      → Cut cap (chosen (capped cap count) p Q count onward) (chosen false p Q count free)
-  chosen-cut size onward free cut u p Q count h = by (capped cap count) refl p
-    where
-      by : (b : Bool) → eqb count cap ≡ b → (p : Progress) → Cut cap (chosen b p Q count onward) (chosen false p Q count free)
-      by true e p =
-          let at : count ≡ cap = eqb-true count cap e in
-          over (omega (arith, chosen-unspent size free u p Q count .least)) (ap spent at)
-      by false e clash = within (omega (arith, eqb-false count cap e)) refl
-      by false e (marked m new) = cut Q m (suc count) (omega (arith, eqb-false count cap e))
+  module _ (size : ℕ) (onward free : List (Literal ℕ) → Marks → Best → ℕ → Walked)
+      (same : (Q : List (Literal ℕ)) (m : Marks) (b : Best) (c : ℕ) → c ≤ cap → Capped cap (onward Q m b c) (free Q m b c))
+      (u : (Q : List (Literal ℕ)) (m : Marks) (b : Best) (c : ℕ) → Uncut c size (free Q m b c)) where
+    pursued-capped : (p : Progress) (cheap : Marks → Bool) (Q : List (Literal ℕ)) (b : Best) (count : ℕ) → count ≤ cap
+        → Capped cap (pursued p cheap Q b count onward) (pursued p cheap Q b count free)
+    pursued-capped clash cheap Q b count h = within h refl
+    pursued-capped (marked m new) cheap Q b count h = by (cheap m)
+      where
+        by : (x : Bool) → Capped cap (elim x [ true ↦ onward Q m b count | false ↦ passed b count ]) (elim x [ true ↦ free Q m b count | false ↦ passed b count ])
+        by true = same Q m b count h
+        by false = within h refl
+
+    -- one choice
+    chosen-capped : (p : Progress) (cheap : Marks → Bool) (Q : List (Literal ℕ)) (b : Best) (count : ℕ) → count ≤ cap
+        → Capped cap (chosen (capped cap count) p cheap Q b count onward) (chosen false p cheap Q b count free)
+    chosen-capped p cheap Q b count h = by (capped cap count) refl
+      where
+        by : (x : Bool) → eqb count cap ≡ x → Capped cap (chosen x p cheap Q b count onward) (chosen false p cheap Q b count free)
+        by true e =
+            let at : count ≡ cap = eqb-true count cap e in
+            over (omega (arith, chosen-uncut size free u p cheap Q b count .least)) (ap cut at)
+        by false e = pursued-capped p cheap Q b (suc count) (omega (arith, eqb-false count cap e))
 
   -- both choices of a step
-  orElse-cut : (o f : Outcome) (more free : ℕ → Outcome) → Cut cap o f → ((c : ℕ) → c ≤ cap → Cut cap (more c) (free c))
-      → ((c : ℕ) → c < choices (free c)) → Cut cap (orElse o more) (orElse f free)
-  orElse-cut o (found m c) more free (over h e) cut least = over h (rw e)
-  orElse-cut o (found m c) more free (within h e) cut least = within h (rw e)
-  orElse-cut o (none c) more free (over h e) cut least = over (omega (arith, least c)) (rw e)
-  orElse-cut o (none c) more free (within h e) cut least = rw e (cut c h)
-  orElse-cut o (spent c) more free (over h e) cut least = over h (rw e)
-  orElse-cut o (spent c) more free (within h e) cut least = within h (rw e)
+  both-capped : (w f : Walked) (more free : Best → ℕ → Walked) → Capped cap w f → ((b : Best) (c : ℕ) → c ≤ cap → Capped cap (more b c) (free b c))
+      → ((b : Best) (c : ℕ) → c < made (free b c)) → Capped cap (andThen w more) (andThen f free)
+  both-capped w (passed b c) more free (over h e) same least = over (omega (arith, least b c)) (rw e)
+  both-capped w (passed b c) more free (within h e) same least = rw e (same b c h)
+  both-capped w (cut c) more free (over h e) same least = over h (rw e)
+  both-capped w (cut c) more free (within h e) same least = within h (rw e)
 
-  module _ (close : List (Literal ℕ) → Progress) where
+  module _ (close : List (Literal ℕ) → Progress) (price : Marks → ℕ) where
     -- from a count within the cap, the walk under it is the walk without one, cut
-    pub walk-cut : (steps : List ℕ) (P : List (Literal ℕ)) (m : Marks) (count : ℕ) → count ≤ cap
-        → Cut cap (walk (capped cap) close steps P m count) (walk uncapped close steps P m count)
+    pub walk-capped : (steps : List ℕ) (P : List (Literal ℕ)) (m : Marks) (b : Best) (count : ℕ) → count ≤ cap
+        → Capped cap (walk (capped cap) close price steps P m b count) (walk uncapped close price steps P m b count)
     unfolding walk
-    walk-cut [] P m count h = within h refl
-    walk-cut (j ∷ js) P m count h = by (isKnown (markAt m j)) refl (walk-cut js)
+    walk-capped [] P m b count h = within h refl
+    walk-capped (j ∷ js) P m b count h = by (isKnown (markAt m j)) refl (walk-capped js)
       where
-        by : (b : Bool) → isKnown (markAt m j) ≡ b
-            → ((Q : List (Literal ℕ)) (m′ : Marks) (c : ℕ) → c ≤ cap → Cut cap (walk (capped cap) close js Q m′ c) (walk uncapped close js Q m′ c))
-            → Cut cap (walk (capped cap) close (j ∷ js) P m count) (walk uncapped close (j ∷ js) P m count)
-        by true e cut = rw (walk-known (capped cap) close j js P m count e, walk-known uncapped close j js P m count e) (cut P m count h)
-        by false e cut = rw (walk-unknown (capped cap) close j js P m count e, walk-unknown uncapped close j js P m count e)
-            (orElse-cut _ _ _ _
-            (chosen-cut _ _ _ cut (walk-unspent close js) (close (pos j ∷ P)) (pos j ∷ P) count h)
-            (chosen-cut _ _ _ cut (walk-unspent close js) (close (neg j ∷ P)) (neg j ∷ P))
-            (λ c. chosen-unspent _ _ (walk-unspent close js) (close (neg j ∷ P)) (neg j ∷ P) c .least))
+        by : (x : Bool) → isKnown (markAt m j) ≡ x
+            → ((Q : List (Literal ℕ)) (m′ : Marks) (b′ : Best) (c : ℕ) → c ≤ cap
+            → Capped cap (walk (capped cap) close price js Q m′ b′ c) (walk uncapped close price js Q m′ b′ c))
+            → Capped cap (walk (capped cap) close price (j ∷ js) P m b count) (walk uncapped close price (j ∷ js) P m b count)
+        by true e same = rw (walk-known (capped cap) close price j js P m b count e, walk-known uncapped close price j js P m b count e) (same P m b count h)
+        by false e same = rw (walk-unknown (capped cap) close price j js P m b count e, walk-unknown uncapped close price j js P m b count e)
+            (both-capped _ _ _ _
+            (chosen-capped _ _ _ same (walk-uncut close price js) (close (pos j ∷ P)) (λ n. undercuts (price n) b) (pos j ∷ P) b count h)
+            (λ b′. chosen-capped _ _ _ same (walk-uncut close price js) (close (neg j ∷ P)) (λ n. undercuts (price n) b′) (neg j ∷ P) b′)
+            (λ b′ c. chosen-uncut _ _ (walk-uncut close price js) (close (neg j ∷ P)) (λ n. undercuts (price n) b′) (neg j ∷ P) b′ c .least))
 
-    cut-at : (steps : List ℕ) → Cut cap (search (capped cap) close steps) (search uncapped close steps)
-    unfolding search
-    cut-at steps = by (close [])
-      where
-        by : (p : Progress)
-            → Cut cap (elim p [ clash ↦ none 0 | marked m new ↦ walk (capped cap) close steps [] m 0 ])
-            (elim p [ clash ↦ none 0 | marked m new ↦ walk uncapped close steps [] m 0 ])
-        by clash = within zero-le refl
-        by (marked m new) = walk-cut steps [] m 0 zero-le
+    -- and so is what comes of P
+    pub pursue-capped : (steps : List ℕ) (P : List (Literal ℕ)) (b : Best) (count : ℕ) → count ≤ cap
+        → Capped cap (pursue close price P b count (walk (capped cap) close price steps)) (pursue close price P b count (walk uncapped close price steps))
+    pursue-capped steps P b =
+        pursued-capped (length steps) (walk (capped cap) close price steps) (walk uncapped close price steps) (walk-capped steps) (walk-uncut close price steps)
+        (close P) (λ n. undercuts (price n) b) P b
 
--- with more choices than the cap it is spent
-pub cut-over : {cap : ℕ} {o f : Outcome} → Cut cap o f → cap < choices f → o ≡ spent cap
-cut-over (over h e) more = e
-cut-over (within h e) more = absurd (omega arith)
+-- the choices of what is cut are within the cap
+pub capped-made : {cap : ℕ} {w f : Walked} → Capped cap w f → made w ≤ cap
+capped-made (over h e) = rw e (omega arith)
+capped-made (within h e) = rw e h
 
--- with no more it is the same
-pub cut-within : {cap : ℕ} {o f : Outcome} → Cut cap o f → choices f ≤ cap → o ≡ f
-cut-within (over h e) few = absurd (omega arith)
-cut-within (within h e) few = e
+module _ (close : List (Literal ℕ) → Progress) (price : Marks → ℕ) (steps : List ℕ) (cap : ℕ) where
+  whole : Capped cap (all-walked close price (capped cap) steps) (all-walked close price uncapped steps)
+  whole = pursue-capped cap close price steps [] unfound 0 zero-le
 
-module _ (close : List (Literal ℕ) → Progress) (steps : List ℕ) (cap : ℕ) where
   -- where the search without a cap makes more choices than the cap, the one under it is spent, at the cap
-  pub search-cut : cap < choices (search uncapped close steps) → search (capped cap) close steps ≡ spent cap
-  search-cut = cut-over (cut-at cap close steps)
+  pub search-cut : cap < choices (search uncapped close price steps) → search (capped cap) close price steps ≡ spent cap
+  unfolding search
+  search-cut more = by whole
+    where
+      by : Capped cap (all-walked close price (capped cap) steps) (all-walked close price uncapped steps) → answerOf (all-walked close price (capped cap) steps) ≡ spent cap
+      by (over h e) = ap answerOf e
+      by (within h e) = absurd (omega (arith, choices-made (all-walked close price uncapped steps)))
 
   -- where it makes no more, the one under the cap gives the same
-  pub search-same : choices (search uncapped close steps) ≤ cap → search (capped cap) close steps ≡ search uncapped close steps
-  search-same = cut-within (cut-at cap close steps)
+  pub search-same : choices (search uncapped close price steps) ≤ cap → search (capped cap) close price steps ≡ search uncapped close price steps
+  unfolding search
+  search-same few = by whole
+    where
+      by : Capped cap (all-walked close price (capped cap) steps) (all-walked close price uncapped steps)
+          → answerOf (all-walked close price (capped cap) steps) ≡ answerOf (all-walked close price uncapped steps)
+      by (over h e) = absurd (omega (arith, choices-made (all-walked close price uncapped steps)))
+      by (within h e) = ap answerOf e

@@ -5,38 +5,54 @@ use mathlib.Core.Path.{_≡_, refl, sym, subst, _∙_}
 use mathlib.Core.List.{List, []}
 use Rattle.table.specs.Table.{Table}
 use Rattle.propagate.specs.Memory.{Memory}
-use Rattle.search.specs.declared.outcome.Outcome.{Outcome as Answer}
+use Rattle.search.specs.declared.best.Best.{Best as Held}
+use Rattle.search.specs.declared.best.Best.the-variants.{Unfound}
+use Rattle.search.specs.declared.best.Walked.{Walked as Finished}
+use Rattle.search.specs.declared.best.Walked.the-variants.{Passed}
 use Rattle.search.specs.declared.reach.Reached.{Reached}
 use Rattle.search.specs.declared.reach.Reached.the-variants.{Ended, Unsettled}
-use Rattle.search.specs.Search.{search}
+use Rattle.search.specs.Search.{unfound, search, answerOf}
 use Rattle.search.specs.TableSearch.{tableSearch, searchUnder}
-use Rattle.search.specs.Stands.{StandsAt, GoesOn, Gives, Somewhere, GivesFrom, Comes, walkFrom, searchFrom}
+use Rattle.search.specs.Answer.{outcomeOf, listAfter}
+use Rattle.search.specs.Finds.{finished, written, Gives}
+use Rattle.search.specs.Stands.{StandsAt, GoesOn, Somewhere, GivesFrom, Comes, walkFrom, searchFrom}
+use Rattle.search.proofs.Giving.{gives-same, gives-answer, gives-list}
 use Rattle.search.proofs.WalkOn.{walk-passed, search-marked}
+use lib.ListN.{length}
 
-as-search : (T : Table) (cap : ℕ) → searchUnder T cap ≡ searchFrom T cap 0 [] 0
-unfolding tableSearch search
-as-search T cap = refl
+module _ (T : Table) (cap : ℕ) where
+  as-search : searchUnder T cap ≡ answerOf (searchFrom T cap 0 [] unfound 0)
+  unfolding tableSearch search
+  as-search = refl
 
-module _ (T : Table) (cap : ℕ) (M : Memory) (list between : List ℕ) (reached : Reached) (comes : Comes T [] 0 M list between reached) where
-  -- an answer was reached
-  pub start-ended : (r : Answer) → reached ≡ Ended r → Gives T (searchUnder T cap) list between r
-  start-ended r told = go (subst (Comes T [] 0 M list between) told comes)
-    where
-      go : Comes T [] 0 M list between (Ended r) → Gives T (searchUnder T cap) list between r
-      go (o, g, same) = subst (λ x. Gives T x list between r) (sym (as-search T cap ∙ same cap 0 (omega arith))) g
+  -- what is answered and written, where all was walked as the search does
+  module _ (bytes : List ℕ) (r : Finished) (g : Gives T (searchFrom T cap 0 [] unfound 0) bytes r) where
+    pub start-answer : finished r ≡ outcomeOf (searchUnder T cap)
+    start-answer = gives-answer T (searchFrom T cap 0 [] unfound 0) bytes r g ∙ sym (λ i. outcomeOf (as-search i))
 
-  -- or a step that is unsettled
-  module _ (k : ℕ) (told : reached ≡ Unsettled k) where
-    there : Comes T [] 0 M list between (Unsettled k)
-    there = subst (Comes T [] 0 M list between) told comes
+    pub start-list : (list : List ℕ) → written (length (T .steps)) r bytes list ≡ listAfter T (searchUnder T cap) list
+    start-list list = gives-list T (searchFrom T cap 0 [] unfound 0) bytes r list g ∙ sym (λ i. listAfter T (as-search i) list)
 
-    pub start-stands : Somewhere (GoesOn T k M)
-    start-stands = ([], there .0, there .1)
+  module _ (M : Memory) (bytes : List ℕ) (reached : Reached) (comes : Comes T Unfound M bytes [] unfound reached) where
+    -- an end was reached
+    pub start-ended : (after : Held) → reached ≡ Ended after → Gives T (searchFrom T cap 0 [] unfound 0) bytes (Passed after 0)
+    start-ended after told = go (subst (Comes T Unfound M bytes [] unfound) told comes)
+      where
+        go : Comes T Unfound M bytes [] unfound (Ended after) → Gives T (searchFrom T cap 0 [] unfound 0) bytes (Passed after 0)
+        go (b′, stores, same) = gives-same T bytes (Passed after 0) (same cap 0 0 (omega arith)) (stores, refl)
 
-    pub start-onward : (after : List ℕ) (r : Answer) → GivesFrom (GoesOn T k M) T (λ R n. walkFrom T cap k R n 0) between after r
-        → Gives T (searchUnder T cap) list after r
-    start-onward after r rest =
-        let s : StandsAt T k (M .rows) [] (there .0) = there .1 .stands in
-        subst (λ x. Gives T x list after r)
-        (sym (as-search T cap ∙ search-marked T cap 0 [] 0 (s .closed) ∙ walk-passed T cap [] (there .0) 0 0 k (omega arith) (omega (arith, s .inside)) (s .settled)))
-        (subst (λ l. Gives T (walkFrom T cap k [] (there .0) 0) l after r) (there .2) (rest [] (there .0) (there .1)))
+    -- or a step that is unsettled
+    module _ (k : ℕ) (told : reached ≡ Unsettled k) where
+      there : Comes T Unfound M bytes [] unfound (Unsettled k)
+      there = subst (Comes T Unfound M bytes [] unfound) told comes
+
+      pub start-stands : Somewhere (GoesOn T k M Unfound bytes)
+      start-stands = ([], there .0, unfound, there .1)
+
+      pub start-onward : (after : List ℕ) (r : Finished) → GivesFrom (GoesOn T k M Unfound bytes) T (λ R n b. walkFrom T cap k R n b 0) after r
+          → Gives T (searchFrom T cap 0 [] unfound 0) after r
+      start-onward after r rest =
+          let s : StandsAt T k (M .rows) [] (there .0) = there .1 .stands in
+          gives-same T after r
+          (search-marked T cap 0 [] unfound 0 (s .closed) (there .2) ∙ walk-passed T cap [] (there .0) unfound 0 0 k (omega arith) (omega (arith, s .inside)) (s .settled))
+          (rest [] (there .0) unfound (there .1))

@@ -1,49 +1,58 @@
--- Answers: an answer that stands, none and the answer after it, and the choices of none.
-use Prim.Native.Nat.{ℕ, _≤_}
-use native.Mathlib.Omega.{arith}
-use mathlib.Core.Path.{_≡_, sym, subst, _∙_}
-use mathlib.Core.List.{List}
+-- Finds and ends of the code that are those of the search.
+use Prim.Native.Nat.{ℕ}
+use mathlib.Core.Path.{_≡_, refl, sym, ap, subst}
+use mathlib.Core.List.{List, _++_}
+use lib.Dec.{ltb}
+use lib.ListN.{length, drop}
 use Rattle.table.specs.Table.{Table}
-use Rattle.search.specs.declared.outcome.Outcome.{Outcome as Answer}
-use Rattle.search.specs.declared.outcome.Outcome.the-variants.{Found, None, Spent}
-use Rattle.search.specs.Search.{Outcome, found, none, spent}
-use Rattle.search.specs.Right.{choices}
-use Rattle.search.specs.Answer.{outcomeOf}
-use Rattle.search.specs.Stands.{Gives}
-use Rattle.search.proofs.Step.{orElse}
-use Rattle.search.proofs.Cap.{Cut, over, within}
+use Rattle.search.specs.declared.best.Best.{Best as Held}
+use Rattle.search.specs.declared.best.Best.the-variants.{Unfound, Cheapest}
+use Rattle.search.specs.declared.best.Walked.{Walked as Finished}
+use Rattle.search.specs.declared.best.Walked.the-variants.{Passed, Cut}
+use Rattle.search.specs.declared.outcome.Outcome.the-variants.{Found}
+use Rattle.search.specs.Search.{Best, unfound, find, undercuts, Walked, passed, cut, answerOf}
+use Rattle.search.specs.Answer.{outcomeOf, listAfter}
+use Rattle.search.specs.Finds.{beats, finished, written, Stores, Gives}
+use Rattle.search.proofs.Step.{andThen}
 
 module _ (T : Table) where
-  -- of the same outcome
-  pub gives-same : {o p : Outcome} {list after : List ℕ} {r : Answer} → o ≡ p → Gives T p list after r → Gives T o list after r
-  gives-same {list} {after} {r} e g = subst (λ x. Gives T x list after r) (sym e) g
+  -- the same prices undercut it
+  pub stored-beats : (b : Best) (best : Held) (bytes : List ℕ) (price : ℕ) → Stores T b best bytes → beats price best ≡ undercuts price b
+  stored-beats unfound Unfound bytes price h = refl
+  stored-beats unfound (Cheapest q) bytes price h = absurd h
+  stored-beats (find m p) Unfound bytes price h = absurd h
+  stored-beats (find m p) (Cheapest q) bytes price h = ap (ltb price) (h .0)
 
-  -- an answer other than none stands
-  pub gives-stays : (o : Outcome) (more : ℕ → Outcome) (list after : List ℕ) (r : Answer) → Gives T o list after r → ((c : ℕ) → ¬ (r ≡ None c))
-      → Gives T (orElse o more) list after r
-  gives-stays (found m c) more list after r g other = g
-  gives-stays (none c) more list after r g other = absurd (other c (g .answer))
-  gives-stays (spent c) more list after r g other = g
+  -- of the same end of the search
+  pub gives-same : (bytes : List ℕ) (r : Finished) {w v : Walked} → w ≡ v → Gives T v bytes r → Gives T w bytes r
+  gives-same bytes r e g = subst (λ x. Gives T x bytes r) (sym e) g
 
-  -- none is followed by what the other try gives
-  pub gives-else : (o : Outcome) (more : ℕ → Outcome) (list between after : List ℕ) (c : ℕ) (first r : Answer) → Gives T o list between first → first ≡ None c
-      → Gives T (more c) between after r → Gives T (orElse o more) list after r
-  gives-else (found m d) more list between after c first r g told rest =
-      let e : None c ≡ Found d = sym told ∙ g .answer in let z : _≡_ {A = ℕ} 0 1 = cc in absurd (omega arith)
-  gives-else (none d) more list between after c first r g told rest =
-      let e : None c ≡ None d = sym told ∙ g .answer in
-      let same : c ≡ d = cc in
-      subst (λ x. Gives T (more x) list after r) same (subst (λ l. Gives T (more c) l after r) (g .list-after) rest)
-  gives-else (spent d) more list between after c first r g told rest =
-      let e : None c ≡ Spent d = sym told ∙ g .answer in let z : _≡_ {A = ℕ} 0 1 = cc in absurd (omega arith)
+  -- at the cap, nothing comes after
+  pub gives-cut : (w : Walked) (more : Best → ℕ → Walked) (bytes : List ℕ) (c : ℕ) → Gives T w bytes (Cut c) → Gives T (andThen w more) bytes (Cut c)
+  gives-cut (passed b d) more bytes c g = absurd g
+  gives-cut (cut d) more bytes c g = g
 
--- the choices of a cut answer are within the cap
-pub cut-choices : {cap : ℕ} {o f : Outcome} → Cut cap o f → choices o ≤ cap
-cut-choices (over h e) = rw e (omega arith)
-cut-choices (within h e) = rw e h
+  -- what was passed, with the choices made
+  pub gives-passed : (w : Walked) (bytes : List ℕ) (best : Held) (c : ℕ) → Gives T w bytes (Passed best c) → (b : Best) × (w ≡ passed b c) × Stores T b best bytes
+  gives-passed (passed b d) bytes best c g = (b, ap (passed b) (sym (g .1)), g .0)
+  gives-passed (cut d) bytes best c g = absurd g
 
--- those of none are what it carries
-pub none-choices : (o : Outcome) (c : ℕ) → None c ≡ outcomeOf o → choices o ≡ c
-none-choices (found m d) c e = let z : _≡_ {A = ℕ} 0 1 = cc in absurd (omega arith)
-none-choices (none d) c e = cc
-none-choices (spent d) c e = let z : _≡_ {A = ℕ} 0 1 = cc in absurd (omega arith)
+  -- ---- once all is walked
+
+  pub gives-answer : (w : Walked) (bytes : List ℕ) (r : Finished) → Gives T w bytes r → finished r ≡ outcomeOf (answerOf w)
+  gives-answer (passed unfound c) bytes (Passed Unfound d) g = λ i. finished (Passed Unfound (g .1 i))
+  gives-answer (passed unfound c) bytes (Passed (Cheapest q) d) g = absurd (g .0)
+  gives-answer (passed (find m p) c) bytes (Passed Unfound d) g = absurd (g .0)
+  gives-answer (passed (find m p) c) bytes (Passed (Cheapest q) d) g = λ i. Found (g .0 .0 i) (g .1 i)
+  gives-answer (passed b c) bytes (Cut d) g = absurd g
+  gives-answer (cut c) bytes (Passed best d) g = absurd g
+  gives-answer (cut c) bytes (Cut d) g = λ i. finished (Cut (g i))
+
+  pub gives-list : (w : Walked) (bytes : List ℕ) (r : Finished) (list : List ℕ) → Gives T w bytes r → written (length (T .steps)) r bytes list ≡ listAfter T (answerOf w) list
+  gives-list (passed unfound c) bytes (Passed Unfound d) list g = refl
+  gives-list (passed unfound c) bytes (Passed (Cheapest q) d) list g = absurd (g .0)
+  gives-list (passed (find m p) c) bytes (Passed Unfound d) list g = absurd (g .0)
+  gives-list (passed (find m p) c) bytes (Passed (Cheapest q) d) list g = ap (λ (l : List ℕ). l ++ drop (length (T .steps)) list) (g .0 .1)
+  gives-list (passed b c) bytes (Cut d) list g = absurd g
+  gives-list (cut c) bytes (Passed best d) list g = absurd g
+  gives-list (cut c) bytes (Cut d) list g = refl

@@ -13,7 +13,7 @@ use Rattle.propagate.specs.Memory.{memory}
 use Rattle.search.specs.Stands.{Handed}
 use Rattle.search.proofs.Zeroed.{zeros}
 
-module _ {table : List ℕ} {net : Net} {targets bases rows words list : List ℕ} (h : Handed table net targets bases rows words list) where
+module _ {table : List ℕ} {net : Net} {targets bases rows words bytes : List ℕ} (h : Handed table net targets bases rows words bytes) where
   pub handed-table : Wellformed (tableOf table)
   handed-table = accepted table (h .setting .accepted) .table
 
@@ -26,22 +26,22 @@ module _ {table : List ℕ} {net : Net} {targets bases rows words list : List �
   }
 
   -- rows of the right size, and buffers as long
-  handed-with : {rows′ words′ list′ : List ℕ} → length rows′ ≡ 130 → ((k : ℕ) → getD rows′ k 0 < 2 ^ 32) → length words′ ≡ length words
-      → length list′ ≡ length list → Handed table net targets bases rows′ words′ list′
-  handed-with size small same-words same-list = record {
+  handed-with : {rows′ words′ bytes′ : List ℕ} → length rows′ ≡ 130 → ((k : ℕ) → getD rows′ k 0 < 2 ^ 32) → length words′ ≡ length words
+      → length bytes′ ≡ length bytes → Handed table net targets bases rows′ words′ bytes′
+  handed-with size small same-words same-bytes = record {
     setting = h .setting;
     rows-size = size;
     small-rows = small;
     words-size = same-words ∙ h .words-size;
-    list-size = omega (arith, h .list-size);
+    room = omega (arith, h .room);
   }
 
-  pub handed-on : {rows′ words′ list′ : List ℕ} → Sized (tableOf table) (memory rows′ words′) → length words′ ≡ length words → length list′ ≡ length list
-      → Handed table net targets bases rows′ words′ list′
+  pub handed-on : {rows′ words′ bytes′ : List ℕ} → Sized (tableOf table) (memory rows′ words′) → length words′ ≡ length words → length bytes′ ≡ length bytes
+      → Handed table net targets bases rows′ words′ bytes′
   handed-on sized = handed-with (sized .rows-size) (sized .small-rows)
 
   -- the same rows again
-  pub handed-again : {words′ list′ : List ℕ} → length words′ ≡ length words → length list′ ≡ length list → Handed table net targets bases rows words′ list′
+  pub handed-again : {words′ bytes′ : List ℕ} → length words′ ≡ length words → length bytes′ ≡ length bytes → Handed table net targets bases rows words′ bytes′
   handed-again = handed-with (h .rows-size) (h .small-rows)
 
   -- the same rows, with words of 0

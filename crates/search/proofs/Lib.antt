@@ -4,11 +4,13 @@ pub mod InOrder
 pub mod Agree
 pub mod Needs
 pub mod Stand
-pub mod First
+pub mod Undercut
+pub mod Cheapest
 pub mod RepairSound
 pub mod ByNumber
 pub mod SettledRepair
 pub mod ClosureRight
+pub mod PriceRight
 pub mod Right
 pub mod StepWords
 pub mod Lowest

@@ -1,7 +1,7 @@
--- What the search needs of the closure that it runs on, to find the first of some lists: the models.
+-- What the search needs of the closure and of the prices that it runs on, to find the cheapest of some lists: the models.
 use Prim.Native.Nat.{ℕ, _≤_, _<_}
 use mathlib.Core.Path.{_≡_}
-use mathlib.Core.Bool.{Bool, true, cond}
+use mathlib.Core.Bool.{Bool, true, false, cond}
 use mathlib.Core.List.{List, [], _∷_}
 use lib.ListN.{length, getD}
 use Rattle.circuit.specs.Logic.{Literal}
@@ -36,3 +36,10 @@ pub record ClosureIsRight (e : ℕ) (Model : List ℕ → Type 0) (close : List 
   -- where every step is known, the list of the marks is a model
   pub complete : {P : List (Literal ℕ)} {m : Marks} {b : Bool} → Fine P → close P ≡ marked m b
       → ((j : ℕ) → j < e → isKnown (markAt m j) ≡ true) → Model (bytesOf e m)
+
+-- `price` is what marks cost, and `cost` what a list does.
+pub record PriceIsRight (e : ℕ) (price : Marks → ℕ) (cost : List ℕ → ℕ) : Type 0 where
+  -- a list that strikes each step that is known struck costs no less
+  pub least : (m : Marks) (list : List ℕ) → ((j : ℕ) → j < e → markAt m j ≡ known false → getD list j 0 ≡ 0) → price m ≤ cost list
+  -- where every step is known, the list of the marks costs what they do
+  pub exact : (m : Marks) → ((j : ℕ) → j < e → isKnown (markAt m j) ≡ true) → price m ≡ cost (bytesOf e m)

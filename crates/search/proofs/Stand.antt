@@ -6,7 +6,6 @@ use mathlib.Core.Bool.{Bool, true, false, cond, false≢true}
 use mathlib.Core.List.{List, [], _∷_, List·Memᴰ}
 use lib.ListN.{length, getD}
 use lib.Seq.{ext-getD}
-use Rattle.ctl.specs.Rank.{First}
 use Rattle.circuit.specs.Logic.{Literal}
 use Rattle.closure.specs.Closure.{Mark, unknown, known, Marks, markAt, isKnown, Progress, marked}
 use Rattle.closure.proofs.Marks.{unknown-at}
@@ -79,18 +78,16 @@ module _ {e : ℕ} {Model : List ℕ → Type 0} {close : List (Literal ℕ) →
       bit : (list : List ℕ) → Among Model P list → getD list j 0 ≡ cond (r .0) 1 0
       bit list b = right .mark-sound (s .fine) (s .closed) list (b .0) (b .1) j (r .0) (omega arith) (r .1)
 
-  -- where every step is settled, the list of the marks is the one model that agrees with P
-  pub all-settled : {P : List (Literal ℕ)} {m : Marks} → Stands e P m → First (Among Model P) (bytesOf e m)
-  all-settled {P} {m} s = record { member = member; before = λ list a other. absurd (other (only list a)) }
-    where
-      member : Among Model P (bytesOf e m)
-      member = (
-        right .complete (s .fine) (s .closed) (s .settled),
-        λ l i. let h = s .held l i in getD-bytesOf e m (l .var) (h .0) ∙ ap bitOf (h .1),
-      )
+  -- where every step is settled, the list of the marks is a model that agrees with P
+  pub settled-member : {P : List (Literal ℕ)} {m : Marks} → Stands e P m → Among Model P (bytesOf e m)
+  settled-member {P} {m} s = (
+    right .complete (s .fine) (s .closed) (s .settled),
+    λ l i. let h = s .held l i in getD-bytesOf e m (l .var) (h .0) ∙ ap bitOf (h .1),
+  )
 
-      only : (list : List ℕ) → Among Model P list → list ≡ bytesOf e m
-      only list a =
-          let size : length list ≡ e = right .model-size list (a .0) in
-          ext-getD 0 list (bytesOf e m) (size ∙ sym (length-bytesOf e m))
-          (λ j h. settled-same s (omega arith) list (bytesOf e m) a member j (omega arith))
+  -- and there is no other
+  pub settled-only : {P : List (Literal ℕ)} {m : Marks} → Stands e P m → (list : List ℕ) → Among Model P list → list ≡ bytesOf e m
+  settled-only {P} {m} s list a =
+      let size : length list ≡ e = right .model-size list (a .0) in
+      ext-getD 0 list (bytesOf e m) (size ∙ sym (length-bytesOf e m))
+      (λ j h. settled-same s (omega arith) list (bytesOf e m) a (settled-member s) j (omega arith))

@@ -1,4 +1,4 @@
--- Step rows that hold exactly what marks know: a step is unsettled in both or in neither, and they give the same list.
+-- Step rows that hold exactly what marks know: a step is unsettled in both or in neither, and they give the same list and cost the same.
 use Prim.Native.Nat.{ℕ, _<_}
 use mathlib.Core.Path.{_≡_, refl, sym, ap, _∙_}
 use mathlib.Core.Bool.{Bool, true, false, cond, not, _||_, Bool·beq, false≢true}
@@ -8,11 +8,12 @@ use lib.ListN.{length}
 use lib.Seq.{ext-getD}
 use Rattle.table.specs.Table.{Table, stepAt}
 use Rattle.table.proofs.Bools.{same-test}
+use Rattle.ctl.proofs.Price.{price-same}
 use Rattle.ctl.proofs.Tabulate.{length-tabulate, getD-tabulate}
 use Rattle.closure.specs.Closure.{Mark, unknown, known, Marks, markAt, isKnown}
 use Rattle.closure.specs.Closes.{stepKnown}
-use Rattle.search.specs.TableSearch.{bitOf, listOf}
-use Rattle.search.specs.StepRows.{stepBit, isUnsettled, keptBytes}
+use Rattle.search.specs.TableSearch.{bitOf, isStruck, markPrice, listOf}
+use Rattle.search.specs.StepRows.{stepBit, isUnsettled, rowsPrice, keptBytes}
 use Rattle.search.proofs.Agree.{length-bytesOf, getD-bytesOf}
 
 -- the mark is known with this sign
@@ -36,6 +37,11 @@ unsettled-of unknown = refl
 unsettled-of (known true) = refl
 unsettled-of (known false) = refl
 
+struck-of : (x : Mark) → isSign false x ≡ isStruck x
+struck-of unknown = refl
+struck-of (known true) = refl
+struck-of (known false) = refl
+
 byte-of : (x : Mark) → cond (isSign true x) 1 0 ≡ bitOf x
 byte-of unknown = refl
 byte-of (known true) = refl
@@ -50,6 +56,9 @@ module _ (T : Table) (rows : List ℕ) (m : Marks)
 
   pub unsettled-mark : (i : ℕ) → i < length (T .steps) → isUnsettled T rows i ≡ not (isKnown (markAt m i))
   unsettled-mark i h = (λ k. not (step-mark i h true k || step-mark i h false k)) ∙ unsettled-of (markAt m i)
+
+  pub price-mark : rowsPrice T rows ≡ markPrice T m
+  price-mark = price-same T _ _ (λ i h. step-mark i h false ∙ struck-of (markAt m i))
 
   pub list-mark : keptBytes T rows ≡ listOf T m
   list-mark = ext-getD 0 (keptBytes T rows) (listOf T m) (length-tabulate e bit ∙ sym (length-bytesOf e m))

@@ -12,29 +12,31 @@ use Rattle.table.specs.Table.{Table}
 use Rattle.table.specs.Facts.{Wellformed}
 use Rattle.circuit.specs.Logic.{Literal, pos}
 use Rattle.circuit.specs.Variables.{variableCount}
-use Rattle.closure.specs.Closure.{Marks, Progress, clash, marked}
+use Rattle.closure.specs.Closure.{Marks}
 use Rattle.propagate.specs.Memory.{Memory}
 use Rattle.closure.specs.Numbered.{numberedClauses}
 use Rattle.closure.proofs.Grow.{closure-keeps}
 use Rattle.closure.proofs.Places.{numbered-inside}
 use Rattle.search.specs.declared.choices.Choices.{Choices}
 use Rattle.search.specs.declared.choices.Choice.the-variants.{Next, AtCap}
-use Rattle.search.specs.declared.outcome.Outcome.{Outcome as Answer}
-use Rattle.search.specs.declared.outcome.Outcome.the-variants.{None, Spent}
+use Rattle.search.specs.declared.best.Best.{Best as Held}
+use Rattle.search.specs.declared.best.Walked.{Walked as Finished}
+use Rattle.search.specs.declared.best.Walked.the-variants.{Passed, Cut}
 use Rattle.search.specs.declared.reach.Reached.{Reached}
 use Rattle.search.specs.declared.reach.Reached.the-variants.{Ended, Unsettled}
-use Rattle.search.specs.Search.{Outcome, capped, choose}
-use Rattle.search.specs.Right.{choices}
+use Rattle.search.specs.Search.{Best, Walked, capped, choose}
+use Rattle.search.specs.TableSearch.{markPrice}
 use Rattle.search.specs.Counted.{counted}
-use Rattle.search.specs.Stands.{Fine, StandsAt, GoesOn, Gives, Somewhere, GivesFrom, Comes, closureOf, walkFrom, searchFrom, struckFrom}
-use Rattle.search.proofs.Step.{orElse}
-use Rattle.search.proofs.Cap.{walk-cut}
+use Rattle.search.specs.Finds.{Stores, Gives}
+use Rattle.search.specs.Stands.{Fine, StandsAt, GoesOn, Somewhere, GivesFrom, Comes, closureOf, stepsFrom, walkFrom, searchFrom, struckFrom}
+use Rattle.search.proofs.Step.{andThen}
+use Rattle.search.proofs.Cap.{made, pursue-capped, capped-made}
 use Rattle.search.proofs.Stand.{Stands, fine-choice, stands-choice}
 use Rattle.search.proofs.ByNumber.{fine-within}
 use Rattle.search.proofs.ClosureRight.{closure-is-right}
-use Rattle.search.proofs.Giving.{gives-same, gives-stays, gives-else, cut-choices, none-choices}
+use Rattle.search.proofs.Giving.{gives-same, gives-cut, gives-passed}
 use Rattle.search.proofs.ChoiceCount.{counted-cap, counted-next}
-use Rattle.search.proofs.WalkOn.{walk-passed, walk-unsettled, search-clash, search-marked, choose-capped, choose-next}
+use Rattle.search.proofs.WalkOn.{walk-passed, walk-unsettled, search-marked, choose-capped, choose-next}
 use Rattle.search.proofs.Fewer.{unsettledSteps, unsettled-falls}
 
 -- ---- the try
@@ -47,8 +49,9 @@ module _ (T : Table) (wf : Wellformed T) (count : Choices) (j : ℕ) (rows : Lis
   abbrev Q : List (Literal ℕ)
   Q = chosenLiteral ∷ P
 
-  abbrev tried : Outcome
-  tried = choose (capped (count .cap)) (closureOf T) chosenLiteral P (count .made) (walkFrom T (count .cap) (suc j))
+  -- from the cheapest find b
+  abbrev tried : Best → Walked
+  tried b = choose (capped (count .cap)) (closureOf T) (markPrice T) chosenLiteral P b (count .made) (walkFrom T (count .cap) (suc j))
 
   -- where the search stands, as its own laws say it
   stands : Stands (closure-is-right T wf) j P m
@@ -68,12 +71,11 @@ module _ (T : Table) (wf : Wellformed T) (count : Choices) (j : ℕ) (rows : Lis
   try-fine = fine-choice (closure-is-right T wf) stands (at .inside) (at .unsettled) sign
 
   -- at the cap
-  pub try-spent : AtCap ≡ counted count → (list : List ℕ) → Gives T tried list list (Spent (count .made))
-  try-spent e list =
-      gives-same T (choose-capped T (count .cap) (suc j) chosenLiteral P (count .made) (counted-cap count e)) (record { answer = refl; list-after = refl })
+  pub try-cut : AtCap ≡ counted count → (b : Best) (bytes : List ℕ) → Gives T (tried b) bytes (Cut (count .made))
+  try-cut e b bytes = gives-same T bytes (Cut (count .made)) (choose-capped T (count .cap) (suc j) chosenLiteral P b (count .made) (counted-cap count e)) refl
 
   -- below it
-  module _ (more : Choices) (next : Next more ≡ counted count) where
+  module _ (more : Choices) (next : Next more ≡ counted count) (b : Best) where
     below : eqb (count .made) (count .cap) ≡ false
     below = counted-next count more next .0
 
@@ -81,44 +83,44 @@ module _ (T : Table) (wf : Wellformed T) (count : Choices) (j : ℕ) (rows : Lis
     one-more = counted-next count more next .1
 
     -- the choice as a search from what is chosen
-    as-search : tried ≡ searchFrom T (more .cap) (suc j) Q (more .made)
+    as-search : tried b ≡ searchFrom T (more .cap) (suc j) Q b (more .made)
     as-search =
-        choose-next T (count .cap) (suc j) chosenLiteral P (count .made) below
-        ∙ ap (λ (d : Choices). searchFrom T (d .cap) (suc j) Q (d .made)) (sym one-more)
+        choose-next T (count .cap) (suc j) chosenLiteral P b (count .made) below
+        ∙ ap (λ (d : Choices). searchFrom T (d .cap) (suc j) Q b (d .made)) (sym one-more)
 
     within-cap : count .made ≤ count .cap → more .made ≤ more .cap
     within-cap h = rw one-more (omega (arith, eqb-false (count .made) (count .cap) below))
 
-    -- none is within the cap
-    pub try-none : count .made ≤ count .cap → (list after : List ℕ) (r : Answer) → Gives T tried list after r → (c : ℕ) → r ≡ None c → c ≤ count .cap
-    try-none h list after r g c told =
-        omega (arith, none-choices tried c (sym told ∙ g .answer), ap choices as-search, go (closureOf T Q) refl, ap (λ (d : Choices). d .cap) one-more)
-      where
-        go : (p : Progress) → closureOf T Q ≡ p → choices (searchFrom T (more .cap) (suc j) Q (more .made)) ≤ more .cap
-        go clash e = rw (search-clash T (more .cap) (suc j) Q (more .made) e) (within-cap h)
-        go (marked n new) e =
-            rw (search-marked T (more .cap) (suc j) Q (more .made) e) (cut-choices (walk-cut (more .cap) (closureOf T) _ Q n (more .made) (within-cap h)))
+    -- what was passed is within the cap
+    pub try-within : count .made ≤ count .cap → (bytes : List ℕ) (best : Held) (c : ℕ) → Gives T (tried b) bytes (Passed best c) → c ≤ count .cap
+    try-within h bytes best c g =
+        omega (
+          arith,
+          ap made (sym (gives-passed T (tried b) bytes best c g .1) ∙ as-search),
+          capped-made (pursue-capped (more .cap) (closureOf T) (markPrice T) (stepsFrom T (suc j)) Q b (more .made) (within-cap h)),
+          ap (λ (d : Choices). d .cap) one-more,
+        )
 
-    module _ (M : Memory) (list between : List ℕ) (reached : Reached) (comes : Comes T Q (more .made) M list between reached) where
-      -- an answer was reached
-      pub try-ended : (r : Answer) → reached ≡ Ended r → Gives T tried list between r
-      try-ended r told = go (subst (Comes T Q (more .made) M list between) told comes)
+    module _ (best : Held) (M : Memory) (bytes : List ℕ) (reached : Reached) (comes : Comes T best M bytes Q b reached) where
+      -- an end was reached
+      pub try-ended : (after : Held) → reached ≡ Ended after → Gives T (tried b) bytes (Passed after (more .made))
+      try-ended after told = go (subst (Comes T best M bytes Q b) told comes)
         where
-          go : Comes T Q (more .made) M list between (Ended r) → Gives T tried list between r
-          go (o, g, same) = gives-same T (as-search ∙ same (more .cap) (suc j) (at .inside)) g
+          go : Comes T best M bytes Q b (Ended after) → Gives T (tried b) bytes (Passed after (more .made))
+          go (b′, stores, same) = gives-same T bytes (Passed after (more .made)) (as-search ∙ same (more .cap) (suc j) (more .made) (at .inside)) (stores, refl)
 
       -- or a step that is unsettled
       module _ (k : ℕ) (told : reached ≡ Unsettled k) where
-        there : Comes T Q (more .made) M list between (Unsettled k)
-        there = subst (Comes T Q (more .made) M list between) told comes
+        there : Comes T best M bytes Q b (Unsettled k)
+        there = subst (Comes T best M bytes Q b) told comes
 
         s : StandsAt T k (M .rows) Q (there .0)
         s = there .1 .stands
 
         -- the search stands there with fewer steps unsettled, and within the cap
         pub try-goes : count .made ≤ count .cap
-            → (unsettledSteps T (M .rows) < unsettledSteps T rows) × (more .made ≤ more .cap) × Somewhere (GoesOn T k M)
-        try-goes h = (unsettled-falls T wf j k rows (M .rows) P m (there .0) sign at s, within-cap h, (Q, there .0, there .1))
+            → (unsettledSteps T (M .rows) < unsettledSteps T rows) × (more .made ≤ more .cap) × Somewhere (GoesOn T k M best bytes)
+        try-goes h = (unsettled-falls T wf j k rows (M .rows) P m (there .0) sign at s, within-cap h, (Q, there .0, b, there .1))
 
         -- a later step
         later : suc j ≤ k
@@ -129,35 +131,31 @@ module _ (T : Table) (wf : Wellformed T) (count : Choices) (j : ℕ) (rows : Lis
             go (no l) = omega arith
 
         -- and goes on from there
-        pub try-onward : (after : List ℕ) (r : Answer) → GivesFrom (GoesOn T k M) T (λ R n. walkFrom T (more .cap) k R n (more .made)) between after r
-            → Gives T tried list after r
+        pub try-onward : (after : List ℕ) (r : Finished) → GivesFrom (GoesOn T k M best bytes) T (λ R n c. walkFrom T (more .cap) k R n c (more .made)) after r
+            → Gives T (tried b) after r
         try-onward after r rest =
-            gives-same T
+            gives-same T after r
             (as-search
-            ∙ search-marked T (more .cap) (suc j) Q (more .made) (s .closed)
-            ∙ walk-passed T (more .cap) Q (there .0) (more .made) (suc j) k later (omega (arith, s .inside)) (s .settled))
-            (subst (λ l. Gives T (walkFrom T (more .cap) k Q (there .0) (more .made)) l after r) (there .2) (rest Q (there .0) (there .1)))
+            ∙ search-marked T (more .cap) (suc j) Q b (more .made) (s .closed) (there .2)
+            ∙ walk-passed T (more .cap) Q (there .0) b (more .made) (suc j) k later (omega (arith, s .inside)) (s .settled))
+            (rest Q (there .0) b (there .1))
 
 -- ---- both tries
 
-module _ (T : Table) (count : Choices) (j : ℕ) (rows : List ℕ) (P : List (Literal ℕ)) (m : Marks) (at : StandsAt T j rows P m) where
-  abbrev keptTry : Outcome
-  keptTry = choose (capped (count .cap)) (closureOf T) (pos j) P (count .made) (walkFrom T (count .cap) (suc j))
+module _ (T : Table) (count : Choices) (j : ℕ) (rows : List ℕ) (P : List (Literal ℕ)) (m : Marks) (at : StandsAt T j rows P m) (b : Best) where
+  abbrev pub keptTry : Walked
+  keptTry = choose (capped (count .cap)) (closureOf T) (markPrice T) (pos j) P b (count .made) (walkFrom T (count .cap) (suc j))
 
-  split : walkFrom T (count .cap) j P m (count .made) ≡ orElse keptTry (struckFrom T (count .cap) j P)
-  split = walk-unsettled T (count .cap) P m (count .made) j (at .inside) (at .unsettled)
+  split : walkFrom T (count .cap) j P m b (count .made) ≡ andThen keptTry (struckFrom T (count .cap) j P)
+  split = walk-unsettled T (count .cap) P m b (count .made) j (at .inside) (at .unsettled)
 
-  -- the kept try's answer stands
-  pub kept-stays : (list after : List ℕ) (r : Answer) → Gives T keptTry list after r → ((c : ℕ) → ¬ (r ≡ None c))
-      → Gives T (walkFrom T (count .cap) j P m (count .made)) list after r
-  kept-stays list after r g other = gives-same T split (gives-stays T keptTry (struckFrom T (count .cap) j P) list after r g other)
+  -- the kept try reached the cap
+  pub kept-cut : (bytes : List ℕ) (c : ℕ) → Gives T keptTry bytes (Cut c) → Gives T (walkFrom T (count .cap) j P m b (count .made)) bytes (Cut c)
+  kept-cut bytes c g = gives-same T bytes (Cut c) split (gives-cut T keptTry (struckFrom T (count .cap) j P) bytes c g)
 
-  -- it gives none, and the struck try's is taken
-  pub kept-else : (list between after : List ℕ) (c : ℕ) (first r : Answer) → Gives T keptTry list between first → first ≡ None c
-      → Gives T (struckFrom T (count .cap) j P c) between after r → Gives T (walkFrom T (count .cap) j P m (count .made)) list after r
-  kept-else list between after c first r g told rest = gives-same T split (gives-else T keptTry (struckFrom T (count .cap) j P) list between after c first r g told rest)
-
-  -- at the cap
-  pub kept-spent : Wellformed T → AtCap ≡ counted count → (list : List ℕ) → Gives T (walkFrom T (count .cap) j P m (count .made)) list list (Spent (count .made))
-  kept-spent wf full list =
-      kept-stays list list (Spent (count .made)) (try-spent T wf count j rows P m at true full list) (λ c e. let z : _≡_ {A = ℕ} 0 1 = cc in omega arith)
+  -- or it passed, and the struck try comes after
+  pub kept-then : (bytes : List ℕ) (best : Held) (c : ℕ) → Gives T keptTry bytes (Passed best c) → (after : List ℕ) (r : Finished)
+      → ((b′ : Best) → Stores T b′ best bytes → Gives T (struckFrom T (count .cap) j P b′ c) after r) → Gives T (walkFrom T (count .cap) j P m b (count .made)) after r
+  kept-then bytes best c g after r rest =
+      let p = gives-passed T keptTry bytes best c g in
+      gives-same T after r (split ∙ ap (λ (w : Walked). andThen w (struckFrom T (count .cap) j P)) (p .1)) (rest (p .0) (p .2))

@@ -13,9 +13,10 @@ use Rattle.ctl.specs.Levels.{below}
 use Rattle.ctl.proofs.Tabulate.{length-tabulate, getD-tabulate}
 use Rattle.circuit.specs.Logic.{Literal, pos}
 use Rattle.closure.specs.Closure.{Marks, markAt, isKnown, Progress, clash, marked}
-use Rattle.search.specs.Search.{Outcome, found, none, spent, capped, choose, walk}
+use Rattle.search.specs.Search.{Best, find, undercuts, Walked, passed, cut, capped, choose, walk}
+use Rattle.search.specs.TableSearch.{markPrice}
 use Rattle.search.specs.Stands.{closureOf, stepsFrom, walkFrom, searchFrom, struckFrom}
-use Rattle.search.proofs.Step.{chosen, orElse, walk-known, walk-unknown}
+use Rattle.search.proofs.Step.{pursued, chosen, andThen, walk-known, walk-unknown}
 
 module _ (T : Table) where
   -- the steps from j on: j, and those after it
@@ -28,53 +29,63 @@ module _ (T : Table) where
   steps-none : stepsFrom T (length (T .steps)) ≡ []
   steps-none = drop-of-length-le (below (length (T .steps))) {i = length (T .steps)} (rw length-tabulate (omega arith))
 
-  module _ (cap : ℕ) (P : List (Literal ℕ)) (m : Marks) (made : ℕ) where
+  module _ (cap : ℕ) (P : List (Literal ℕ)) (m : Marks) (best : Best) (made : ℕ) where
     -- settled steps are passed
-    pass : (k : ℕ) → k ≤ length (T .steps) → ((i : ℕ) → i < k → isKnown (markAt m i) ≡ true) → walkFrom T cap 0 P m made ≡ walkFrom T cap k P m made
+    pass : (k : ℕ) → k ≤ length (T .steps) → ((i : ℕ) → i < k → isKnown (markAt m i) ≡ true) → walkFrom T cap 0 P m best made ≡ walkFrom T cap k P m best made
     pass zero h settled = refl
     pass (suc k) h settled =
         pass k (omega arith) (λ i l. settled i (omega arith))
-        ∙ ap (λ (js : List ℕ). walk (capped cap) (closureOf T) js P m made) (steps-cons k h)
-        ∙ walk-known (capped cap) (closureOf T) k (stepsFrom T (suc k)) P m made (settled k (omega arith))
+        ∙ ap (λ (js : List ℕ). walk (capped cap) (closureOf T) (markPrice T) js P m best made) (steps-cons k h)
+        ∙ walk-known (capped cap) (closureOf T) (markPrice T) k (stepsFrom T (suc k)) P m best made (settled k (omega arith))
 
     pub walk-passed : (i k : ℕ) → i ≤ k → k ≤ length (T .steps) → ((x : ℕ) → x < k → isKnown (markAt m x) ≡ true)
-        → walkFrom T cap i P m made ≡ walkFrom T cap k P m made
+        → walkFrom T cap i P m best made ≡ walkFrom T cap k P m best made
     walk-passed i k l h settled = sym (pass i (omega arith) (λ x lt. settled x (omega arith))) ∙ pass k h settled
 
     -- where all are settled, m is found
     pub walk-settled : (i : ℕ) → i ≤ length (T .steps) → ((x : ℕ) → x < length (T .steps) → isKnown (markAt m x) ≡ true)
-        → walkFrom T cap i P m made ≡ found m made
+        → walkFrom T cap i P m best made ≡ passed (find m (markPrice T m)) made
     unfolding walk
     walk-settled i h settled =
         walk-passed i (length (T .steps)) h (omega arith) settled
-        ∙ ap (λ (js : List ℕ). walk (capped cap) (closureOf T) js P m made) steps-none
+        ∙ ap (λ (js : List ℕ). walk (capped cap) (closureOf T) (markPrice T) js P m best made) steps-none
 
-    -- an unsettled step is chosen kept and, where that gives none, struck
+    -- an unsettled step is chosen kept and then struck
     pub walk-unsettled : (j : ℕ) → j < length (T .steps) → isKnown (markAt m j) ≡ false
-        → walkFrom T cap j P m made ≡ orElse (choose (capped cap) (closureOf T) (pos j) P made (walkFrom T cap (suc j))) (struckFrom T cap j P)
+        → walkFrom T cap j P m best made ≡ andThen (choose (capped cap) (closureOf T) (markPrice T) (pos j) P best made (walkFrom T cap (suc j))) (struckFrom T cap j P)
     walk-unsettled j h unsettled-at =
-        ap (λ (js : List ℕ). walk (capped cap) (closureOf T) js P m made) (steps-cons j h)
-        ∙ walk-unknown (capped cap) (closureOf T) j (stepsFrom T (suc j)) P m made unsettled-at
+        ap (λ (js : List ℕ). walk (capped cap) (closureOf T) (markPrice T) js P m best made) (steps-cons j h)
+        ∙ walk-unknown (capped cap) (closureOf T) (markPrice T) j (stepsFrom T (suc j)) P m best made unsettled-at
 
-  -- what is searched from P, once its closure is known
-  module _ (cap j : ℕ) (P : List (Literal ℕ)) (made : ℕ) where
-    found-of : Progress → Outcome
-    found-of p = elim p [ clash ↦ none made | marked m new ↦ walkFrom T cap j P m made ]
+  -- what is searched from P, once its closure and its price are known
+  module _ (cap j : ℕ) (P : List (Literal ℕ)) (best : Best) (made : ℕ) where
+    by-closure : Progress → Walked
+    by-closure p = pursued p (λ m. undercuts (markPrice T m) best) P best made (walkFrom T cap j)
 
-    pub search-clash : closureOf T P ≡ clash → searchFrom T cap j P made ≡ none made
-    unfolding found-of
-    search-clash e = ap found-of e
+    by-price : Marks → Bool → Walked
+    by-price m cheap = elim cheap [ true ↦ walkFrom T cap j P m best made | false ↦ passed best made ]
 
-    pub search-marked : {m : Marks} {new : Bool} → closureOf T P ≡ marked m new → searchFrom T cap j P made ≡ walkFrom T cap j P m made
-    unfolding found-of
-    search-marked e = ap found-of e
+    pub search-clash : closureOf T P ≡ clash → searchFrom T cap j P best made ≡ passed best made
+    unfolding by-closure
+    search-clash e = ap by-closure e
+
+    pub search-dear : {m : Marks} {new : Bool} → closureOf T P ≡ marked m new → undercuts (markPrice T m) best ≡ false → searchFrom T cap j P best made ≡ passed best made
+    unfolding by-closure by-price
+    search-dear {m} e dear = ap by-closure e ∙ ap (by-price m) dear
+
+    pub search-marked : {m : Marks} {new : Bool} → closureOf T P ≡ marked m new → undercuts (markPrice T m) best ≡ true → searchFrom T cap j P best made ≡ walkFrom T cap j P m best made
+    unfolding by-closure by-price
+    search-marked {m} e cheap = ap by-closure e ∙ ap (by-price m) cheap
 
   -- a choice at the cap, and below it
-  module _ (cap j : ℕ) (l : Literal ℕ) (P : List (Literal ℕ)) (made : ℕ) where
-    pub choose-capped : eqb made cap ≡ true → choose (capped cap) (closureOf T) l P made (walkFrom T cap j) ≡ spent made
-    choose-capped e = ap (λ (b : Bool). chosen b (closureOf T (l ∷ P)) (l ∷ P) made (walkFrom T cap j)) e
+  module _ (cap j : ℕ) (l : Literal ℕ) (P : List (Literal ℕ)) (best : Best) (made : ℕ) where
+    by-count : Bool → Walked
+    by-count stop = chosen stop (closureOf T (l ∷ P)) (λ m. undercuts (markPrice T m) best) (l ∷ P) best made (walkFrom T cap j)
 
-    pub choose-next : eqb made cap ≡ false → choose (capped cap) (closureOf T) l P made (walkFrom T cap j) ≡ searchFrom T cap j (l ∷ P) (made + 1)
-    choose-next e =
-        ap (λ (b : Bool). chosen b (closureOf T (l ∷ P)) (l ∷ P) made (walkFrom T cap j)) e
-        ∙ ap (searchFrom T cap j (l ∷ P)) (sym (add-one made))
+    pub choose-capped : eqb made cap ≡ true → choose (capped cap) (closureOf T) (markPrice T) l P best made (walkFrom T cap j) ≡ cut made
+    unfolding by-count
+    choose-capped e = ap by-count e
+
+    pub choose-next : eqb made cap ≡ false → choose (capped cap) (closureOf T) (markPrice T) l P best made (walkFrom T cap j) ≡ searchFrom T cap j (l ∷ P) best (made + 1)
+    unfolding by-count
+    choose-next e = ap by-count e ∙ ap (searchFrom T cap j (l ∷ P) best) (sym (add-one made))

@@ -8,14 +8,14 @@ use Rattle.search.specs.declared.outcome.Outcome.the-variants.{Found, No
 use Rattle.search.specs.Search.{Outcome, found, none, spent}
 use Rattle.search.specs.TableSearch.{listOf}
 
--- found, none or spent, with the choices
+-- found with its price, none or spent, each with the choices
 abbrev pub outcomeOf : Outcome → Answer
-outcomeOf (found m c) = Found c
+outcomeOf (found m p c) = Found p c
 outcomeOf (none c) = None c
 outcomeOf (spent c) = Spent c
 
 -- the lent list afterwards: found writes a byte for each step, and the rest stays
 abbrev pub listAfter : Table → Outcome → List ℕ → List ℕ
-listAfter T (found m c) list = listOf T m ++ drop (length (T .steps)) list
+listAfter T (found m p c) list = listOf T m ++ drop (length (T .steps)) list
 listAfter T (none c) list = list
 listAfter T (spent c) list = list

@@ -4,4 +4,5 @@ pub mod Right
 pub mod Counted
 pub mod Answer
 pub mod StepRows
+pub mod Finds
 pub mod Stands

@@ -1,15 +1,36 @@
--- 01, "The search": choices of the lowest unsettled step, kept and then struck, counted and cut at a cap.
+-- 01, "The search", as 02's A4 has it: choices of the lowest unsettled step, kept and then struck, counted and cut at a cap, for the cheapest find.
 use Prim.Native.Nat.{ℕ, suc}
 use mathlib.Core.Bool.{Bool, true, false}
 use mathlib.Core.List.{List, [], _∷_}
-use lib.Dec.{eqb}
+use lib.Dec.{eqb, ltb}
 use Rattle.circuit.specs.Logic.{Literal, pos, neg}
 use Rattle.closure.specs.Closure.{Marks, markAt, isKnown, Progress, clash, marked}
 
--- the answer, with the choices made
+-- the cheapest find so far: none, or the marks of a closure that settles every step, and their price
+pub data Best : Type 0 where
+  unfound : Best
+  find : Marks → ℕ → Best
+
+-- whether marks of this price may still lead to a cheaper find
+abbrev pub undercuts : ℕ → Best → Bool
+undercuts price unfound = true
+undercuts price (find m least) = ltb price least
+
+-- where a part of the search has ended: all of it failed or was found, with the cheapest find and the choices made by then; or at the cap
+pub data Walked : Type 0 where
+  passed : Best → ℕ → Walked
+  cut : ℕ → Walked
+
+-- the answer: what is found, with its price and the choices made; none or spent, with the choices made
 pub data Outcome : Type 0 where
-  found : Marks → ℕ → Outcome
+  found : Marks → ℕ → ℕ → Outcome
   none spent : ℕ → Outcome
+
+-- "After the last failure the cheapest find is the answer, or none where there was no find."
+abbrev pub answerOf : Walked → Outcome
+answerOf (passed unfound c) = none c
+answerOf (passed (find m price) c) = found m price c
+answerOf (cut c) = spent c
 
 -- whether no further choice may be made at this count: at the cap, or never
 abbrev pub capped : ℕ → ℕ → Bool
@@ -18,27 +39,32 @@ capped cap count = eqb count cap
 abbrev pub uncapped : ℕ → Bool
 uncapped count = false
 
-module _ (atCap : ℕ → Bool) (close : List (Literal ℕ) → Progress) where
-  -- choose a literal on top of P: spent where the count is at the cap, failed where the closure fails, else go on
-  abbrev pub choose : Literal ℕ → List (Literal ℕ) → ℕ → (List (Literal ℕ) → Marks → ℕ → Outcome) → Outcome
-  choose l P count onward = elim (atCap count) [
-    | true ↦ spent count
-    | false ↦ elim (close (l ∷ P)) [ clash ↦ none (suc count) | marked m new ↦ onward (l ∷ P) m (suc count) ]
+-- P is chosen: failed where its closure fails, or where its struck steps cost at least as much as the cheapest find; else go on. `price` is what the
+-- steps cost that marks have as struck.
+module _ (close : List (Literal ℕ) → Progress) (price : Marks → ℕ) where
+  abbrev pub pursue : List (Literal ℕ) → Best → ℕ → (List (Literal ℕ) → Marks → Best → ℕ → Walked) → Walked
+  pursue P best count onward = elim (close P) [
+    | clash ↦ passed best count
+    | marked m new ↦ elim (undercuts (price m) best) [ true ↦ onward P m best count | false ↦ passed best count ]
   ]
 
-  -- The steps not yet passed, lowest first; m is the closure of P. A settled step is passed; an unsettled one is chosen kept and, if that
-  -- fails, struck. Once it is chosen, every step up to it is settled for good.
-  unfoldable pub walk : List ℕ → List (Literal ℕ) → Marks → ℕ → Outcome
-  walk [] P m count = found m count
-  walk (j ∷ js) P m count = elim (isKnown (markAt m j)) [
-    | true ↦ walk js P m count
-    | false ↦ elim (choose (pos j) P count (walk js)) [
-      | found m′ c ↦ found m′ c
-      | none c ↦ choose (neg j) P c (walk js)
-      | spent c ↦ spent c
+module _ (atCap : ℕ → Bool) (close : List (Literal ℕ) → Progress) (price : Marks → ℕ) where
+  -- choose a literal on top of P, where the count is below the cap
+  abbrev pub choose : Literal ℕ → List (Literal ℕ) → Best → ℕ → (List (Literal ℕ) → Marks → Best → ℕ → Walked) → Walked
+  choose l P best count onward = elim (atCap count) [ true ↦ cut count | false ↦ pursue close price (l ∷ P) best (suc count) onward ]
+
+  -- The steps not yet passed, lowest first; m is the closure of P. Where all are passed, m is a find, and cheaper than those before. A settled step is
+  -- passed; an unsettled one is chosen kept and then, whether or not that led to a find, struck. Once it is chosen, every step up to it is settled for good.
+  unfoldable pub walk : List ℕ → List (Literal ℕ) → Marks → Best → ℕ → Walked
+  walk [] P m best count = passed (find m (price m)) count
+  walk (j ∷ js) P m best count = elim (isKnown (markAt m j)) [
+    | true ↦ walk js P m best count
+    | false ↦ elim (choose (pos j) P best count (walk js)) [
+      | passed best′ c ↦ choose (neg j) P best′ c (walk js)
+      | cut c ↦ cut c
     ]
   ]
 
   -- the search of nothing given: the steps are settled in this order
   unfoldable pub search : List ℕ → Outcome
-  search steps = elim (close []) [ clash ↦ none 0 | marked m new ↦ walk steps [] m 0 ]
+  search steps = answerOf (pursue close price [] unfound 0 (walk steps))

@@ -10,7 +10,7 @@ use Rattle.ctl.specs.Levels.{below}
 use Rattle.circuit.specs.Logic.{Literal, neg}
 use Rattle.circuit.specs.Variables.{Var, step, variableCount}
 use Rattle.closure.specs.declared.net.Net.{Net}
-use Rattle.closure.specs.Closure.{Marks, markAt, isKnown, known, Progress, clash, marked, closure}
+use Rattle.closure.specs.Closure.{Marks, markAt, isKnown, known, Progress, marked, closure}
 use Rattle.closure.specs.Numbered.{numberedClauses}
 use Rattle.closure.specs.Knowledge.{Sized, levelTotal}
 use Rattle.propagate.specs.Memory.{Memory}
@@ -18,11 +18,13 @@ use Rattle.closure.specs.Inside.{literal}
 use Rattle.closure.specs.Closes.{stepKnown, Between}
 use Rattle.closure.specs.Setting.{Setting}
 use Rattle.closure.specs.Given.{Within, Consistent}
-use Rattle.search.specs.declared.outcome.Outcome.{Outcome as Answer}
+use Rattle.search.specs.declared.best.Best.{Best as Held}
+use Rattle.search.specs.declared.best.Walked.{Walked as Finished}
 use Rattle.search.specs.declared.reach.Reached.{Reached}
 use Rattle.search.specs.declared.reach.Reached.the-variants.{Ended, Unsettled}
-use Rattle.search.specs.Search.{Outcome, none, capped, choose, walk}
-use Rattle.search.specs.Answer.{outcomeOf, listAfter}
+use Rattle.search.specs.Search.{Best, undercuts, Walked, passed, capped, pursue, choose, walk}
+use Rattle.search.specs.TableSearch.{markPrice}
+use Rattle.search.specs.Finds.{Stores, Gives}
 
 -- the literals may be chosen: they are of steps, and no two of them contradict each other
 pub record Fine (e : ℕ) (P : List (Literal ℕ)) : Type 0 where
@@ -39,16 +41,16 @@ module _ (T : Table) where
   abbrev pub stepsFrom : ℕ → List ℕ
   stepsFrom j = drop j (below (length (T .steps)))
 
-  abbrev pub walkFrom : ℕ → ℕ → List (Literal ℕ) → Marks → ℕ → Outcome
-  walkFrom cap j = walk (capped cap) closureOf (stepsFrom j)
+  abbrev pub walkFrom : ℕ → ℕ → List (Literal ℕ) → Marks → Best → ℕ → Walked
+  walkFrom cap j = walk (capped cap) closureOf (markPrice T) (stepsFrom j)
 
-  -- P is chosen: none where its closure fails, else on from step j
-  abbrev pub searchFrom : ℕ → ℕ → List (Literal ℕ) → ℕ → Outcome
-  searchFrom cap j P made = elim (closureOf P) [ clash ↦ none made | marked m new ↦ walkFrom cap j P m made ]
+  -- P is chosen: failed, or on from step j
+  abbrev pub searchFrom : ℕ → ℕ → List (Literal ℕ) → Best → ℕ → Walked
+  searchFrom cap j P best made = pursue closureOf (markPrice T) P best made (walkFrom cap j)
 
   -- step j is chosen struck
-  abbrev pub struckFrom : ℕ → ℕ → List (Literal ℕ) → ℕ → Outcome
-  struckFrom cap j P made = choose (capped cap) closureOf (neg j) P made (walkFrom cap (suc j))
+  abbrev pub struckFrom : ℕ → ℕ → List (Literal ℕ) → Best → ℕ → Walked
+  struckFrom cap j P best made = choose (capped cap) closureOf (markPrice T) (neg j) P best made (walkFrom cap (suc j))
 
 -- ---- where it stands
 
@@ -66,41 +68,38 @@ pub record StandsAt (T : Table) (j : ℕ) (rows : List ℕ) (P : List (Literal �
   pub settled : (i : ℕ) → i < j → isKnown (markAt m i) ≡ true
   pub unsettled : isKnown (markAt m j) ≡ false
 
--- All rows lie between P and its closure: a try may go on from them.
-pub record GoesOn (T : Table) (j : ℕ) (M : Memory) (P : List (Literal ℕ)) (m : Marks) : Type 0 where
+-- All rows lie between P and its closure: a try may go on from them. The cheapest find is b.
+pub record GoesOn (T : Table) (j : ℕ) (M : Memory) (best : Held) (bytes : List ℕ) (P : List (Literal ℕ)) (m : Marks) (b : Best) : Type 0 where
   pub stands : StandsAt T j (M .rows) P m
   pub between : Between T (stepLiterals P) M
+  pub stores : Stores T b best bytes
 
 -- ---- what the functions are handed, and what they leave
 
--- the words are those of the levels, and the list has a byte for each step
-pub record Handed (table : List ℕ) (net : Net) (targets bases rows words list : List ℕ) : Type 0 where
+-- the words are those of the levels, and a find has room for a byte for each step
+pub record Handed (table : List ℕ) (net : Net) (targets bases rows words bytes : List ℕ) : Type 0 where
   pub setting : Setting table net targets bases
   pub rows-size : length rows ≡ 130
   pub small-rows : (k : ℕ) → getD rows k 0 < 2 ^ 32
   pub words-size : length words ≡ levelTotal (tableOf table)
-  pub list-size : length (tableOf table .steps) ≤ length list
+  pub room : length (tableOf table .steps) ≤ length bytes
 
--- an answer, and the list with it
-pub record Gives (T : Table) (o : Outcome) (list after : List ℕ) (r : Answer) : Type 0 where
-  pub answer : r ≡ outcomeOf o
-  pub list-after : after ≡ listAfter T o list
-
--- What comes of P: an answer, whatever the cap and wherever the search goes on; or the step at which it stands.
-module _ (T : Table) (P : List (Literal ℕ)) (made : ℕ) (M : Memory) (list after : List ℕ) where
+-- What comes of P: the cheapest find, whatever the cap and wherever the search goes on; or the step at which it stands, cheap enough to go on.
+module _ (T : Table) (best : Held) (M : Memory) (bytes : List ℕ) (P : List (Literal ℕ)) (b : Best) where
   abbrev pub Comes : Reached → Type 0
-  Comes (Ended r) = (o : Outcome) × Gives T o list after r × ((cap j : ℕ) → j ≤ length (T .steps) → searchFrom T cap j P made ≡ o)
-  Comes (Unsettled j) = (m : Marks) × GoesOn T j M P m × (after ≡ list)
+  Comes (Ended after) = (b′ : Best) × Stores T b′ after bytes × ((cap j made : ℕ) → j ≤ length (T .steps) → searchFrom T cap j P b made ≡ passed b′ made)
+  Comes (Unsettled j) = (m : Marks) × GoesOn T j M best bytes P m b × (undercuts (markPrice T m) b ≡ true)
 
 -- Of all P that the rows lie between it and its closure.
-pub record Reaches (T : Table) (made : ℕ) (before M : Memory) (list after : List ℕ) (r : Reached) : Type 0 where
+pub record Reaches (T : Table) (best : Held) (before M : Memory) (bytes after : List ℕ) (r : Reached) : Type 0 where
   pub sized : Sized T M
-  pub comes : (P : List (Literal ℕ)) → Fine (length (T .steps)) P → Between T (stepLiterals P) before → Comes T P made M list after r
+  pub comes : (P : List (Literal ℕ)) (b : Best) → Fine (length (T .steps)) P → Between T (stepLiterals P) before → Stores T b best bytes
+      → Comes T best M after P b r
 
 -- A try is called where the search stands, and from wherever it may stand there gives what the search does.
-module _ (Stand : List (Literal ℕ) → Marks → Type 0) where
+module _ (Stand : List (Literal ℕ) → Marks → Best → Type 0) where
   abbrev pub Somewhere : Type 0
-  Somewhere = (P : List (Literal ℕ)) × (m : Marks) × Stand P m
+  Somewhere = (P : List (Literal ℕ)) × (m : Marks) × (b : Best) × Stand P m b
 
-  abbrev pub GivesFrom : Table → (List (Literal ℕ) → Marks → Outcome) → List ℕ → List ℕ → Answer → Type 0
-  GivesFrom T from list after r = (P : List (Literal ℕ)) (m : Marks) → Stand P m → Gives T (from P m) list after r
+  abbrev pub GivesFrom : Table → (List (Literal ℕ) → Marks → Best → Walked) → List ℕ → Finished → Type 0
+  GivesFrom T from bytes r = (P : List (Literal ℕ)) (m : Marks) (b : Best) → Stand P m b → Gives T (from P m b) bytes r

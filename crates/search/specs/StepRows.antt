@@ -8,6 +8,7 @@ use Rattle.sets.specs.Member.{member, setOf}
 use Rattle.table.specs.declared.record.Step.{Step}
 use Rattle.table.specs.Table.{Table, stepAt}
 use Rattle.ctl.specs.Levels.{tabulate}
+use Rattle.ctl.specs.Price.{struckPrice}
 use Rattle.rows.specs.Row.{known}
 use Rattle.rows.specs.Words.{rowAt, stepPlace}
 
@@ -27,6 +28,10 @@ module _ (T : Table) (rows : List ℕ) where
   -- step j is known neither way
   abbrev pub isUnsettled : ℕ → Bool
   isUnsettled j = not (stepSettled rows (stepAt T j))
+
+  -- the prices of the steps that are known struck, added up
+  abbrev pub rowsPrice : ℕ
+  rowsPrice = struckPrice T (λ j. stepBit rows false (stepAt T j))
 
   -- a byte for each step: 1 where it is known kept, else 0
   abbrev pub keptBytes : List ℕ

@@ -1,12 +1,13 @@
--- The search of a table, over its numbered clauses.
+-- The search of a table, over its numbered clauses and with the prices of its steps.
 use Prim.Native.Nat.{ℕ}
-use mathlib.Core.Bool.{Bool, cond}
+use mathlib.Core.Bool.{Bool, false, not, cond}
 use mathlib.Core.List.{List, map}
 use lib.ListN.{length}
 use Rattle.table.specs.Table.{Table}
 use Rattle.circuit.specs.Logic.{Literal}
 use Rattle.circuit.specs.Variables.{variableCount}
 use Rattle.ctl.specs.Levels.{below}
+use Rattle.ctl.specs.Price.{struckPrice}
 use Rattle.closure.specs.Closure.{Mark, Marks, unknown, known, markAt, closure}
 use Rattle.closure.specs.Numbered.{numberedClauses}
 use Rattle.search.specs.Search.{Outcome, search, capped, uncapped}
@@ -20,10 +21,19 @@ bitOf (known b) = cond b 1 0
 abbrev pub bytesOf : ℕ → Marks → List ℕ
 bytesOf e m = map (λ j. bitOf (markAt m j)) (below e)
 
+-- whether a step is settled as struck
+abbrev pub isStruck : Mark → Bool
+isStruck unknown = false
+isStruck (known b) = not b
+
 module _ (T : Table) where
+  -- what the steps cost that are settled as struck, chosen or forced
+  abbrev pub markPrice : Marks → ℕ
+  markPrice m = struckPrice T (λ j. isStruck (markAt m j))
+
   -- the search under a cap, or without one, with the clauses of the table
   unfoldable pub tableSearch : (ℕ → Bool) → List (List (Literal ℕ)) → Outcome
-  tableSearch atCap F = search atCap (closure (variableCount T) F) (below (length (T .steps)))
+  tableSearch atCap F = search atCap (closure (variableCount T) F) markPrice (below (length (T .steps)))
 
   abbrev pub searchUnder : ℕ → Outcome
   searchUnder cap = tableSearch (capped cap) (numberedClauses T)

@@ -1,5 +1,7 @@
-// The search for the first repair.
+// The search for the cheapest repair, and the first in rank of those.
+mod best;
 mod choices;
+mod finish;
 mod outcome;
 mod reach;
 mod start;

@@ -1,6 +1,7 @@
 // The step rows of a closure: what is known of each step.
 use table::Step;
 ghost use mathlib.Core.Path.{_≡_};
+ghost use mathlib.Core.Bool.{false, cond};
 ghost use mathlib.Core.List.{_++_};
 ghost use Prim.Native.Nat.{_≤_, _<_};
 ghost use lib.ListN.{length, drop};
@@ -8,7 +9,7 @@ ghost use Rattle.sets.specs.Member.{lowestOf};
 ghost use Rattle.table.specs.declared.refusal.Verdict.the-variants.{Accepted};
 ghost use Rattle.table.specs.Table.{tableOf};
 ghost use Rattle.table.specs.Accept.{tableVerdict};
-ghost use Rattle.search.specs.StepRows.{wordOf, stepBit, stepSettled, isUnsettled, keptBytes, withStep};
+ghost use Rattle.search.specs.StepRows.{wordOf, stepBit, stepSettled, isUnsettled, rowsPrice, keptBytes, withStep};
 
 // The word of the steps out of s that are kept, or of those that are struck.
 fn word_of(s: usize, kept: bool) -> usize
@@ -58,6 +59,35 @@ pub fn lowest_unsettled(table: &[u8], rows: &[u32]) -> usize
         j += 1;
     }
     e
+}
+
+// What a step costs, where it is known struck.
+fn price_if_struck(rows: &[u32], x: Step) -> u32
+    requires { ⌜ (x .from < 32) × (x .price < 256) × (length (now rows) ≡ 130) ⌝ }
+    ensures { λ r. ⌜ r ≡ cond (stepBit (now (rows .entry)) false x) (x .price) 0 ⌝ }
+{
+    if is_known(rows, x, false) {
+        return x.price as u32;
+    }
+    0
+}
+
+// What the steps cost that are known struck.
+pub fn struck_price(table: &[u8], rows: &[u32]) -> u32
+    requires { ⌜ (tableVerdict (now table) ≡ Accepted) × (length (now rows) ≡ 130) ⌝ }
+    ensures { λ r. ⌜ r ≡ rowsPrice (tableOf (now (table .entry))) (now (rows .entry)) ⌝ }
+{
+    let c = table::counts_of(table);
+    let e = c.steps;
+    let steps = table::steps_part(table);
+    let mut price = 0;
+    let mut j = 0;
+    while j < e {
+        let x = table::step_at(steps, j);
+        price += price_if_struck(rows, x);
+        j += 1;
+    }
+    price
 }
 
 // A byte for each step, 1 kept and 0 struck, at the front of the list.

@@ -57,10 +57,12 @@ unfolding line
 step-exact =
     exact-as
     (field-then 255 space _ _ _ (λ (x : Step). x .from) byte-field
-    (λ i. last-field 255 newline (λ j. record { from = i; to = j }) (λ (x : Step). x .to) last-byte-field (λ j x e. ap (λ (y : Step). y .to) e))
-    (λ i x q. ap (λ (y : Step). y .from) (q .1)))
-    (λ x h. record { from = h .0; to = h .1 .0 })
-    (λ x h. (h .from, (h .to, refl)))
+    (λ i. field-then 255 space _ _ _ (λ (x : Step). x .to) byte-field
+    (λ j. last-field 255 newline (λ p. record { from = i; to = j; price = p }) (λ (x : Step). x .price) last-byte-field (λ p x e. ap (λ (y : Step). y .price) e))
+    (λ j x q. ap (λ (y : Step). y .to) (q .1)))
+    (λ i x q. ap (λ (y : Step). y .from) (q .1 .1)))
+    (λ x h. record { from = h .0; to = h .1 .0; price = h .1 .1 .0 })
+    (λ x h. (h .from, (h .to, (h .price, refl))))
     (λ x. simp append-nil)
 
 pub node-exact : Exact nodeParser NodeInRange nodeLine

@@ -1,4 +1,4 @@
--- 01, "The sheet": which bytes are a sheet. A sheet is the rendering of values that are each in their range.
+-- 01, "The sheet", with the prices of 02, A4: which bytes are a sheet. A sheet is the rendering of values that are each in their range.
 use Prim.Native.Nat.{ℕ, zero, suc, _+_, _/_, _%_, _≤_}
 use Prim.Native.Char.{code}
 use Prim.Native.String.{String, [] as empty, _∷_ as _followed-by_}
@@ -33,6 +33,7 @@ pub record StateInRange (s : State) : Type 0 where
 pub record StepInRange (x : Step) : Type 0 where
   pub from : x .from ≤ 255
   pub to : x .to ≤ 255
+  pub price : x .price ≤ 255
 
 pub record NodeInRange (x : Node) : Type 0 where
   pub kind : x .kind ≤ 255
@@ -73,7 +74,7 @@ abbrev pub statesNames : List ℕ
 statesNames = ascii "initial label\n"
 
 abbrev pub stepsNames : List ℕ
-stepsNames = ascii "from to\n"
+stepsNames = ascii "from to price\n"
 
 abbrev pub nodesNames : List ℕ
 nodesNames = ascii "kind a b\n"
@@ -108,7 +109,7 @@ abbrev pub stateLine : State → List ℕ
 stateLine s = line (s .initial ∷ s .label ∷ [])
 
 abbrev pub stepLine : Step → List ℕ
-stepLine x = line (x .from ∷ x .to ∷ [])
+stepLine x = line (x .from ∷ x .to ∷ x .price ∷ [])
 
 abbrev pub nodeLine : Node → List ℕ
 nodeLine x = line (x .kind ∷ x .a ∷ x .b ∷ [])

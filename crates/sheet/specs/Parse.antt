@@ -84,8 +84,9 @@ stateParser = do
 abbrev pub stepParser : Parser Step
 stepParser = do
   from ← field 255 space
-  to ← field 255 newline
-  return (record { from = from; to = to })
+  to ← field 255 space
+  price ← field 255 newline
+  return (record { from = from; to = to; price = price })
 
 abbrev pub nodeParser : Parser Node
 nodeParser = do

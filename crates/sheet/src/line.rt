@@ -50,10 +50,13 @@ pub fn read_step(text: &[u8], at: usize) -> StepLine
     let Field::Value(from, second) = read_field(text, at, 255, SPACE) else {
         return StepLine::Broken;
     };
-    let Field::Value(to, next) = read_field(text, second, 255, NEWLINE) else {
+    let Field::Value(to, third) = read_field(text, second, 255, SPACE) else {
         return StepLine::Broken;
     };
-    StepLine::Values(Step { from, to }, next)
+    let Field::Value(price, next) = read_field(text, third, 255, NEWLINE) else {
+        return StepLine::Broken;
+    };
+    StepLine::Values(Step { from, to, price }, next)
 }
 
 pub fn read_node(text: &[u8], at: usize) -> NodeLine

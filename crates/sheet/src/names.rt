@@ -9,7 +9,7 @@ pub const COUNTS_NAMES: [u8; 25] = *b"states edges nodes props\n";
 
 pub const STATES_NAMES: [u8; 14] = *b"initial label\n";
 
-pub const STEPS_NAMES: [u8; 8] = *b"from to\n";
+pub const STEPS_NAMES: [u8; 14] = *b"from to price\n";
 
 pub const NODES_NAMES: [u8; 9] = *b"kind a b\n";
 

@@ -6,7 +6,8 @@ use mathlib.Core.Bool.{Bool, true, false, not, _&&_, _||_, and-assoc, or-assoc, 
 use mathlib.Core.List.{List, [], _∷_, _++_}
 use native.Mathlib.Nat.{add-zero, zero-lt-suc, not-suc-le-zero, le-of-suc-le-suc}
 use native.Mathlib.Omega.{arith}
-use borrow.Author.Tests.{not-true}
+use borrow.Author.Tests.{not-true, eq-eqb}
+use lib.Dec.{eqb}
 use lib.ListN.{length, getD}
 use Rattle.table.specs.declared.record.Step.{Step}
 use Rattle.table.specs.declared.record.Node.{Node}
@@ -60,6 +61,10 @@ module _ {ℓ} {A : Type ℓ} (p : A → Bool) where
   unfolding any
   any-append [] ys = refl
   any-append (x ∷ xs) ys = ap (λ (b : Bool). p x || b) (any-append xs ys) ∙ sym (or-assoc (p x) (any p xs) (any p ys))
+
+-- 7 looks at from and to alone: at another price a step is the same
+pub same-at-any-price : (s t p q : ℕ) → sameStep (record { from = s; to = t; price = p }) (record { from = s; to = t; price = q }) ≡ true
+same-at-any-price s t p q = parts-and (eqb s s) (eqb t t) (eq-eqb s s refl) (eq-eqb t t refl)
 
 -- two steps may be compared either way round
 pub sameStep-sym : (x y : Step) → sameStep x y ≡ sameStep y x

@@ -5,6 +5,7 @@ pub mod All
 pub mod Verdicts
 pub mod Buffer
 pub mod Records
+pub mod Bytes
 pub mod Past
 pub mod Scan
 pub mod Rows

@@ -13,7 +13,7 @@ use Rattle.sets.specs.Member.{member, setOf}
 use Rattle.sets.proofs.Laws.{member-zero}
 use Rattle.sets.proofs.SetOf.{member-setOf, setOf-lt}
 use Rattle.table.specs.declared.record.Step.{Step}
-use Rattle.table.specs.Accept.{any, sameStep, distinct}
+use Rattle.table.specs.Accept.{any, joins, sameStep, distinct}
 use Rattle.table.specs.Rows.{Rows, rowsWith}
 use Rattle.table.proofs.All.{any-append, distinct-snoc}
 
@@ -27,25 +27,25 @@ or-false false = refl
 
 -- with the step x given too, its bit is set
 module _ (rows : List ℕ) (xs : List Step) (g : Rows rows xs) (x : Step) (hf : x .from < 32) (ht : x .to < 32) where
-  one-more : (s t : ℕ) → any (sameStep (record { from = s; to = t })) (xs ++ (x ∷ [])) ≡ any (sameStep (record { from = s; to = t })) xs || (eqb s (x .from) && eqb t (x .to))
+  one-more : (s t : ℕ) → any (joins s t) (xs ++ (x ∷ [])) ≡ any (joins s t) xs || (eqb s (x .from) && eqb t (x .to))
   unfolding any
   one-more s t =
-      any-append (sameStep (record { from = s; to = t })) xs (x ∷ [])
-      ∙ ap (λ (b : Bool). any (sameStep (record { from = s; to = t })) xs || b) (or-false (eqb s (x .from) && eqb t (x .to)))
+      any-append (joins s t) xs (x ∷ [])
+      ∙ ap (λ (b : Bool). any (joins s t) xs || b) (or-false (eqb s (x .from) && eqb t (x .to)))
 
-  same-row : (t : ℕ) → t < 32 → member (getD (rowsWith rows x) (x .from) 0) t ≡ any (sameStep (record { from = x .from; to = t })) (xs ++ (x ∷ []))
+  same-row : (t : ℕ) → t < 32 → member (getD (rowsWith rows x) (x .from) 0) t ≡ any (joins (x .from) t) (xs ++ (x ∷ []))
   same-row t h =
       ap (λ (m : ℕ). member m t) (getD-set-same rows (x .from) (setOf 32 (λ t. member (getD rows (x .from) 0) t || eqb t (x .to))) 0 (rw (g .size) hf))
       ∙ member-setOf 32 (λ t. member (getD rows (x .from) 0) t || eqb t (x .to)) t
       ∙ ap (λ (b : Bool). b && (member (getD rows (x .from) 0) t || eqb t (x .to))) (lt-ltb t 32 h)
       ∙ ap (λ (b : Bool). b || eqb t (x .to)) (g .bits (x .from) t hf h)
-      ∙ sym (one-more (x .from) t ∙ ap (λ (b : Bool). any (sameStep (record { from = x .from; to = t })) xs || (b && eqb t (x .to))) (eq-eqb (x .from) (x .from) refl))
+      ∙ sym (one-more (x .from) t ∙ ap (λ (b : Bool). any (joins (x .from) t) xs || (b && eqb t (x .to))) (eq-eqb (x .from) (x .from) refl))
 
-  other-row : (s t : ℕ) → ¬ (s ≡ x .from) → s < 32 → t < 32 → member (getD (rowsWith rows x) s 0) t ≡ any (sameStep (record { from = s; to = t })) (xs ++ (x ∷ []))
+  other-row : (s t : ℕ) → ¬ (s ≡ x .from) → s < 32 → t < 32 → member (getD (rowsWith rows x) s 0) t ≡ any (joins s t) (xs ++ (x ∷ []))
   other-row s t d hs h =
       ap (λ (m : ℕ). member m t) (getD-set-other rows (x .from) s (setOf 32 (λ t. member (getD rows (x .from) 0) t || eqb t (x .to))) 0 d)
       ∙ g .bits s t hs h
-      ∙ sym (one-more s t ∙ ap (λ (b : Bool). any (sameStep (record { from = s; to = t })) xs || (b && eqb t (x .to))) (ne-eqb s (x .from) d) ∙ or-false (any (sameStep (record { from = s; to = t })) xs))
+      ∙ sym (one-more s t ∙ ap (λ (b : Bool). any (joins s t) xs || (b && eqb t (x .to))) (ne-eqb s (x .from) d) ∙ or-false (any (joins s t) xs))
 
   abbrev row-with : ℕ
   row-with = setOf 32 (λ t. member (getD rows (x .from) 0) t || eqb t (x .to))

@@ -43,9 +43,13 @@ initialAt T s = isInitial (stateAt T s)
 abbrev pub stepFits : ℕ → Step → Bool
 stepFits n x = ltb (x .from) n && ltb (x .to) n
 
--- 7: no step is given twice
+-- a step from s to t
+abbrev pub joins : ℕ → ℕ → Step → Bool
+joins s t x = eqb s (x .from) && eqb t (x .to)
+
+-- 7: no step is given twice; the price doesn't tell two steps apart
 abbrev pub sameStep : Step → Step → Bool
-sameStep x y = eqb (x .from) (y .from) && eqb (x .to) (y .to)
+sameStep x y = joins (x .from) (x .to) y
 
 unfoldable pub distinct : List Step → Bool
 distinct [] = true

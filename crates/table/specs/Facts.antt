@@ -22,10 +22,10 @@ pub record Wellformed (T : Table) : Type 0 where
   pub no-repeat : (i j : ℕ) → i < j → j < length (T .steps) → sameStep (stepAt T i) (stepAt T j) ≡ false
   pub node-fits : (i : ℕ) → i < length (T .nodes) → nodeFits (T .props) i (nodeAt T i) ≡ true
 
--- of accepted bytes: the counts are those of the records, and a table is at most 452 bytes
+-- of accepted bytes: the counts are those of the records, and a table is at most 580 bytes
 pub record Packed (bytes : List ℕ) : Type 0 where
   pub states-count : length (tableOf bytes .states) ≡ countsOf bytes .states
   pub steps-count : length (tableOf bytes .steps) ≡ countsOf bytes .steps
   pub nodes-count : length (tableOf bytes .nodes) ≡ countsOf bytes .nodes
-  pub short : length bytes ≤ 452
+  pub short : length bytes ≤ 580
   pub table : Wellformed (tableOf bytes)

@@ -7,13 +7,13 @@ use lib.Dec.{eqb}
 use lib.ListN.{length, getD, set}
 use Rattle.sets.specs.Member.{member, setOf}
 use Rattle.table.specs.declared.record.Step.{Step}
-use Rattle.table.specs.Accept.{any, sameStep}
+use Rattle.table.specs.Accept.{any, joins}
 
 -- bit t of row s says whether the step from s to t is among xs
 pub record Rows (rows : List ℕ) (xs : List Step) : Type 0 where
   pub size : length rows ≡ 32
   pub words : (s : ℕ) → s < 32 → getD rows s 0 < 2 ^ 32
-  pub bits : (s t : ℕ) → s < 32 → t < 32 → member (getD rows s 0) t ≡ any (sameStep (record { from = s; to = t })) xs
+  pub bits : (s t : ℕ) → s < 32 → t < 32 → member (getD rows s 0) t ≡ any (joins s t) xs
 
 -- the rows with the bit of one more step set
 abbrev pub rowsWith : List ℕ → Step → List ℕ
@@ -21,7 +21,7 @@ rowsWith rows x = set rows (x .from) (setOf 32 (λ t. member (getD rows (x .from
 
 -- the ends of the steps out of s, as a set
 unfoldable pub targetSet : List Step → ℕ → ℕ
-targetSet xs s = setOf 32 (λ t. any (sameStep (record { from = s; to = t })) xs)
+targetSet xs s = setOf 32 (λ t. any (joins s t) xs)
 
 -- those of the states from s on, so many of them
 unfoldable pub targetsFrom : List Step → ℕ → ℕ → List ℕ

@@ -1,4 +1,4 @@
--- 01, "The packed table": what the bytes stand for. Past the end of the bytes everything reads as 0.
+-- 01, "The packed table", with the prices of 02, A4: what the bytes stand for. Past the end of the bytes everything reads as 0.
 use Prim.Native.Nat.{ℕ, zero, suc, _+_, _*_}
 use mathlib.Core.List.{List, [], _∷_}
 use lib.ListN.{getD, take, drop}
@@ -15,7 +15,7 @@ abbrev pub stateWidth : ℕ
 stateWidth = 3
 
 abbrev pub stepWidth : ℕ
-stepWidth = 2
+stepWidth = 3
 
 abbrev pub nodeWidth : ℕ
 nodeWidth = 3
@@ -32,9 +32,9 @@ packedLength c = headerWidth + stateWidth * c .states + stepWidth * c .steps + n
 abbrev pub stateOf : List ℕ → State
 stateOf bytes = record { initial = getD bytes 0 0; label = getD bytes 1 0 + 256 * getD bytes 2 0 }
 
--- a step: from, to
+-- a step: from, to, and the price of striking it
 abbrev pub stepOf : List ℕ → Step
-stepOf bytes = record { from = getD bytes 0 0; to = getD bytes 1 0 }
+stepOf bytes = record { from = getD bytes 0 0; to = getD bytes 1 0; price = getD bytes 2 0 }
 
 -- a node: kind, a, b
 abbrev pub nodeOf : List ℕ → Node
@@ -80,7 +80,7 @@ abbrev pub zeroState : State
 zeroState = record { initial = 0; label = 0 }
 
 abbrev pub zeroStep : Step
-zeroStep = record { from = 0; to = 0 }
+zeroStep = record { from = 0; to = 0; price = 0 }
 
 abbrev pub zeroNode : Node
 zeroNode = record { kind = 0; a = 0; b = 0 }

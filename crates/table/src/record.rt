@@ -17,6 +17,7 @@ pub struct State {
 pub struct Step {
     pub from: usize,
     pub to: usize,
+    pub price: usize,
 }
 
 pub struct Node {
@@ -64,12 +65,17 @@ fn cut_step(section: &[u8], i: usize) -> Step
     ensures { λ r. ⌜ r ≡ stepOf (drop (stepWidth * i) (now (section .entry))) ⌝ }
 {
     if section.len() / STEP_WIDTH < i {
-        return Step { from: 0, to: 0 };
+        return Step {
+            from: 0,
+            to: 0,
+            price: 0,
+        };
     }
     let at = STEP_WIDTH * i;
     Step {
         from: byte_at(section, at),
         to: byte_at(section, at + 1),
+        price: byte_at(section, at + 2),
     }
 }
 
@@ -83,6 +89,7 @@ pub fn step_at(section: &[u8], i: usize) -> Step
     Step {
         from: section[at] as usize,
         to: section[at + 1] as usize,
+        price: section[at + 2] as usize,
     }
 }
 

@@ -3,6 +3,6 @@ pub const HEADER_WIDTH: usize = 4;
 
 pub const STATE_WIDTH: usize = 3;
 
-pub const STEP_WIDTH: usize = 2;
+pub const STEP_WIDTH: usize = 3;
 
 pub const NODE_WIDTH: usize = 3;

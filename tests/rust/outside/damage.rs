@@ -33,10 +33,17 @@ fn step(random: &mut Random, draft: &mut Draft) {
     }
     let j = random.below(draft.steps.len());
     let over = draft.counts[0].saturating_add(random.pick(&[0, 0, 1, 40, 255]));
-    match random.below(4) {
+    match random.below(6) {
         0 => draft.steps[j].0 = over,
         1 => draft.steps[j].1 = over,
-        _ => draft.steps[j] = random.pick(&draft.steps.clone()),
+        // any price is good
+        2 => draft.steps[j].2 = random.byte(),
+        3 => draft.steps[j] = random.pick(&draft.steps.clone()),
+        // given twice, whatever the prices are
+        _ => {
+            let (from, to, price) = random.pick(&draft.steps.clone());
+            draft.steps[j] = (from, to, price ^ random.pick(&[1, 2, 128, 255]));
+        }
     }
 }
 
@@ -71,7 +78,7 @@ fn counts(random: &mut Random, draft: &mut Draft) {
     draft.counts[k] = count;
     match k {
         0 => resize(random, &mut draft.states, count, |r| (r.byte() & 1, 0)),
-        1 => resize(random, &mut draft.steps, count, |r| (r.byte() & 31, r.byte() & 31)),
+        1 => resize(random, &mut draft.steps, count, |r| (r.byte() & 31, r.byte() & 31, r.byte())),
         2 => resize(random, &mut draft.nodes, count, |r| [r.byte() & 1, 0, 0]),
         _ => {}
     }

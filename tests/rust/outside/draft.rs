@@ -4,7 +4,8 @@
 pub struct Draft {
     pub counts: [u8; 4],
     pub states: Vec<(u8, u16)>,
-    pub steps: Vec<(u8, u8)>,
+    // from, to, price
+    pub steps: Vec<(u8, u8, u8)>,
     pub nodes: Vec<[u8; 3]>,
 }
 
@@ -14,8 +15,8 @@ impl Draft {
         for &(initial, label) in &self.states {
             bytes.extend([initial, label as u8, (label >> 8) as u8]);
         }
-        for &(from, to) in &self.steps {
-            bytes.extend([from, to]);
+        for &(from, to, price) in &self.steps {
+            bytes.extend([from, to, price]);
         }
         bytes.extend(self.nodes.concat());
         bytes
@@ -27,9 +28,9 @@ impl Draft {
         for (initial, label) in &self.states {
             text += &format!("{initial} {label}\n");
         }
-        text += "from to\n";
-        for (from, to) in &self.steps {
-            text += &format!("{from} {to}\n");
+        text += "from to price\n";
+        for (from, to, price) in &self.steps {
+            text += &format!("{from} {to} {price}\n");
         }
         text += "kind a b\n";
         for [kind, a, b] in &self.nodes {

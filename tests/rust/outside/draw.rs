@@ -23,22 +23,33 @@ pub fn table(random: &mut Random) -> Draft {
 
 fn table_of(random: &mut Random, [n, e, f, p]: [usize; 4]) -> Draft {
     let steps = steps(random, n, e);
+    let steps = priced(random, &steps);
     let states = states(random, n, p);
     let nodes = rules::rule(random, f, p);
     Draft { counts: [n as u8, steps.len() as u8, f as u8, p as u8], states, steps, nodes }
 }
 
-// A small table whose search has to go back, if one comes soon.
+// A small table, if one comes soon, whose search has to go back for more than the struck tries behind its only find; or one with a repair that
+// undercuts the first in rank.
 pub fn hard(random: &mut Random) -> Draft {
-    for _ in 0..40 {
+    let by_price = random.once_in(2);
+    for _ in 0..60 {
         let size = [random.between(2, 6), random.between(4, 14), random.between(4, 16), random.between(1, 3)];
         let draft = table_of(random, size);
-        let answer = clauses::repair(&draft.pack(), 100);
-        if answer.choices > draft.steps.len() as u64 || (answer.number == 14 && answer.choices > 0) {
+        let answer = clauses::repair(&draft.pack(), 200);
+        let back = answer.choices > 2 * draft.steps.len() as u64 || (answer.number == 14 && answer.choices > 0);
+        if (by_price && undercut(&draft, &answer)) || (!by_price && back) {
             return draft;
         }
     }
     table(random)
+}
+
+// Whether the answer is not the repair that ranks first, which is the cheapest where all prices are 0.
+fn undercut(draft: &Draft, answer: &clauses::Answer) -> bool {
+    let mut free = draft.clone();
+    free.steps.iter_mut().for_each(|step| step.2 = 0);
+    answer.number == 0 && clauses::repair(&free.pack(), 200).list != answer.list
 }
 
 fn states(random: &mut Random, n: usize, p: usize) -> Vec<(u8, u16)> {
@@ -80,6 +91,13 @@ fn steps(random: &mut Random, n: usize, e: usize) -> Vec<(u8, u8)> {
     all.truncate(e);
     random.shuffle(&mut all);
     all
+}
+
+// A price for each step. Often there are few different ones, so that lists cost the same, or the sums are as large as can be.
+fn priced(random: &mut Random, steps: &[(u8, u8)]) -> Vec<(u8, u8, u8)> {
+    let (low, high) = random.pick(&[(0, 0), (0, 1), (0, 3), (0, 3), (1, 1), (1, 3), (1, 9), (0, 255), (0, 255), (250, 255), (255, 255)]);
+    let free = random.once_in(6);
+    steps.iter().map(|&(from, to)| (from, to, if free && random.once_in(2) { 0 } else { random.between(low, high) as u8 })).collect()
 }
 
 // A list of any steps, many or few.

@@ -152,14 +152,18 @@ pub fn repair(table: &Table, kept: &[bool]) -> bool {
     graph.total() && !starts.is_empty() && graph.root_holds(table, &starts)
 }
 
-// Of all repairs in one of these senses the one that ranks first, by trying every list from the first in rank to the last.
-pub fn first(table: &Table, is_repair: fn(&Table, &[bool]) -> bool) -> Option<Vec<u8>> {
+// What a list costs: the prices of the steps that it strikes.
+pub fn price(table: &Table, kept: &[bool]) -> u32 {
+    table.prices.iter().zip(kept).filter(|(_, &kept)| !kept).map(|(price, _)| price).sum()
+}
+
+// Of all repairs in one of these senses the cheapest, and of equal prices the one that ranks first, by trying every list in this order.
+pub fn cheapest(table: &Table, is_repair: fn(&Table, &[bool]) -> bool) -> Option<Vec<u8>> {
     let e = table.steps.len();
-    for number in (0..1usize << e).rev() {
-        let kept: Vec<bool> = (0..e).map(|j| number >> (e - 1 - j) & 1 == 1).collect();
-        if is_repair(table, &kept) {
-            return Some(kept.iter().map(|&k| k as u8).collect());
-        }
-    }
-    None
+    let list = |number: usize| -> Vec<bool> { (0..e).map(|j| number >> (e - 1 - j) & 1 == 1).collect() };
+    // from the first in rank to the last, and sorting keeps this order where prices are equal
+    let mut numbers: Vec<usize> = (0..1 << e).rev().collect();
+    numbers.sort_by_cached_key(|&number| price(table, &list(number)));
+    let found = numbers.into_iter().map(list).find(|kept| is_repair(table, kept))?;
+    Some(found.iter().map(|&k| k as u8).collect())
 }

@@ -41,11 +41,14 @@ fn caps(random: &mut Random, answer: &clauses::Answer, limit: u64) -> Vec<u64> {
     vec![random.pick(&enough), random.pick(&few)]
 }
 
-// The list that the clauses gave is a repair in 01's sense, and struck it is one in the narrower sense.
-fn repairs(table: &Table, before: &[u8]) -> Result<(), String> {
+// The list that the clauses gave is a repair in 01's sense, and has this price; struck it is a repair in the narrower sense.
+fn repairs(table: &Table, before: &[u8], price: u32) -> Result<(), String> {
     let kept = |list: &[u8]| accept_list(table, list).map_err(|_| "the clauses gave no list");
     if !meaning::repair(table, &kept(before)?) {
         return Err("the list that the clauses gave is no repair".to_string());
+    }
+    if meaning::price(table, &kept(before)?) != price {
+        return Err(format!("the list that the clauses gave does not cost {price}"));
     }
     if !meaning::narrow_repair(table, &kept(&striking::strike(&table.initial, &table.steps, before))?) {
         return Err("the list that the clauses gave is no repair when struck".to_string());
@@ -53,19 +56,19 @@ fn repairs(table: &Table, before: &[u8]) -> Result<(), String> {
     Ok(())
 }
 
-// What the answer without a cap says must be so by the meaning of the rule. There is none exactly where no list is a repair, in either sense; rank
-// is that of the list before striking.
+// What the answer without a cap says must be so by the meaning of the rule. There is none exactly where no list is a repair, in either sense; price
+// and rank are those of the list before striking.
 fn means(table: &Table, answer: &clauses::Answer) -> Result<(), String> {
     let found = (answer.number == 0).then_some(&answer.list);
     if let Some(before) = found {
-        repairs(table, before)?;
+        repairs(table, before, answer.price)?;
     }
     if table.steps.len() <= 10 && answer.number != 15 {
-        let first = meaning::first(table, meaning::repair);
-        if first.as_ref() != found {
-            return Err(format!("first in rank {first:?}, by the clauses {found:?}"));
+        let cheapest = meaning::cheapest(table, meaning::repair);
+        if cheapest.as_ref() != found {
+            return Err(format!("cheapest {cheapest:?}, by the clauses {found:?}"));
         }
-        let narrow = meaning::first(table, meaning::narrow_repair);
+        let narrow = meaning::cheapest(table, meaning::narrow_repair);
         if narrow.is_some() != found.is_some() {
             return Err(format!("in the narrower sense {narrow:?}, by the clauses {found:?}"));
         }

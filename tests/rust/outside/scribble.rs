@@ -8,11 +8,12 @@ const WORDS: [&str; 24] = [
 
 pub fn text(random: &mut Random, text: &mut Vec<u8>) {
     for _ in 0..random.pick(&[1, 1, 1, 2]) {
-        match random.below(8) {
+        match random.below(9) {
             0 => byte(random, text),
             1 | 2 => value(random, text),
             3 => ends(random, text),
             4 | 5 => line(random, text),
+            6 => last_word(random, text),
             _ => within(random, text),
         }
     }
@@ -65,6 +66,17 @@ fn line(random: &mut Random, text: &mut Vec<u8>) {
         _ => lines.swap(i, j),
     }
     *text = lines.concat();
+}
+
+// The last word of a line taken out, with the space before it: a line of the steps, or their names, as it was before there was a price.
+fn last_word(random: &mut Random, text: &mut Vec<u8>) {
+    let ends: Vec<usize> = (0..text.len()).filter(|&i| text[i] == 10).collect();
+    if ends.is_empty() {
+        return;
+    }
+    let end = random.pick(&ends);
+    let from = text[..end].iter().rposition(|&c| c == b' ' || c == 10).unwrap_or(0);
+    text.drain(from..end);
 }
 
 // Something before, after or between the words of a line.

@@ -1,7 +1,7 @@
 // Reading a sheet: the form of the text by its lines, then the table's tests.
 use crate::table;
 
-const NAMES: [&[u8]; 4] = [b"states edges nodes props", b"initial label", b"from to", b"kind a b"];
+const NAMES: [&[u8]; 4] = [b"states edges nodes props", b"initial label", b"from to price", b"kind a b"];
 
 // The packed table, or 1, or 3 to 8.
 pub fn read(text: &[u8]) -> Result<Vec<u8>, u32> {
@@ -33,10 +33,7 @@ fn packed(text: &[u8]) -> Option<Vec<u8>> {
         let state = values(line, &[255, 65535])?;
         bytes.extend([state[0] as u8, (state[1] % 256) as u8, (state[1] / 256) as u8]);
     }
-    for line in &lines[4 + n..4 + n + e] {
-        bytes.extend(values(line, &[255; 2])?.iter().map(|&x| x as u8));
-    }
-    for line in &lines[5 + n + e..] {
+    for line in lines[4 + n..4 + n + e].iter().chain(&lines[5 + n + e..]) {
         bytes.extend(values(line, &[255; 3])?.iter().map(|&x| x as u8));
     }
     Some(bytes)

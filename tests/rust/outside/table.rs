@@ -10,6 +10,7 @@ pub struct Table {
     pub initial: Vec<bool>,
     pub labels: Vec<u16>,
     pub steps: Vec<(usize, usize)>,
+    pub prices: Vec<u32>,
     pub nodes: Vec<Node>,
 }
 
@@ -22,12 +23,12 @@ pub fn accept(bytes: &[u8]) -> Result<Table, u32> {
     if !(1..=32).contains(&n) || e > 128 || !(1..=32).contains(&f) || p > 16 {
         return Err(3);
     }
-    if bytes.len() != 4 + 3 * n + 2 * e + 3 * f {
+    if bytes.len() != 4 + 3 * n + 3 * e + 3 * f {
         return Err(2);
     }
     let states: Vec<&[u8]> = bytes[4..4 + 3 * n].chunks(3).collect();
-    let steps: Vec<&[u8]> = bytes[4 + 3 * n..4 + 3 * n + 2 * e].chunks(2).collect();
-    let nodes: Vec<&[u8]> = bytes[4 + 3 * n + 2 * e..].chunks(3).collect();
+    let steps: Vec<&[u8]> = bytes[4 + 3 * n..4 + 3 * n + 3 * e].chunks(3).collect();
+    let nodes: Vec<&[u8]> = bytes[4 + 3 * n + 3 * e..].chunks(3).collect();
 
     let label = |state: &[u8]| u16::from_le_bytes([state[1], state[2]]);
     if states.iter().any(|state| state[0] > 1 || u32::from(label(state)) >= 1 << p) {
@@ -39,7 +40,7 @@ pub fn accept(bytes: &[u8]) -> Result<Table, u32> {
     if steps.iter().any(|step| step[0] as usize >= n || step[1] as usize >= n) {
         return Err(6);
     }
-    if (0..e).any(|j| steps[..j].contains(&steps[j])) {
+    if (0..e).any(|j| steps[..j].iter().any(|step| step[..2] == steps[j][..2])) {
         return Err(7);
     }
     if nodes.iter().enumerate().any(|(i, node)| !node_fits(node, i, p)) {
@@ -49,6 +50,7 @@ pub fn accept(bytes: &[u8]) -> Result<Table, u32> {
         initial: states.iter().map(|state| state[0] == 1).collect(),
         labels: states.iter().map(|state| label(state)).collect(),
         steps: steps.iter().map(|step| (step[0] as usize, step[1] as usize)).collect(),
+        prices: steps.iter().map(|step| step[2].into()).collect(),
         nodes: nodes.iter().map(|node| Node { kind: node[0], a: node[1] as usize, b: node[2] as usize }).collect(),
     })
 }

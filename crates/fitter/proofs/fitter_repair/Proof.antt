@@ -1,9 +1,9 @@
--- `fitter_repair` meets its contract: Repair's buffers, and its answer taken apart into a number and the choices.
+-- `fitter_repair` meets its contract: Repair's buffers, and its answer taken apart into a number, the choices and the price.
 use mathlib.Core.Path.{ap, _∙_}
 use denote.Ref.{now}
 use Rattle.repair.specs.declared.answer.Answer.{Answer}
 use Rattle.repair.specs.Answer.{answerNumber}
-use Rattle.fitter.specs.Exports.{repairChoices}
+use Rattle.fitter.specs.Exports.{repairChoices, repairPrice}
 use borrow.Author.Needs.{needs}
 use Rattle.fitter.proofs.fitter_repair.Statement.{statement}
 use Rattle.fitter.proofs.fitter_repair.Tie as tie
@@ -25,10 +25,20 @@ same-length-3 c = search needs
 
 returns : tie.Need-returns
 returns c =
-    let gave = c .before .before .before .before .before .before .before .before .repair .ensures in
-    let before = now (c .before .before .before .before .before .before .before .before .before .before .before .before .before .before .before .before .args .choices) in (
-      c .store-answer .ensures .0 ∙ ap answerNumber (gave .0),
-      (gave .1 .0, (gave .1 .1 .0, (gave .1 .1 .1, c .store-answer .ensures .1 ∙ ap (λ (a : Answer). repairChoices a before) (gave .0)))),
+    let ran = c .before .before .before .before .before .before .before .before .before in
+    let gave = ran .repair .ensures in
+    let a = ran .before .before .before .before .before .before .before .before .args in
+    let choices = now (a .choices) in
+    let price = now (a .price) in
+    let stored = c .store-answer .ensures in (
+      stored .0 ∙ ap answerNumber (gave .0),
+      (
+        gave .1 .0,
+        (
+          gave .1 .1 .0,
+          (gave .1 .1 .1, (stored .1 .0 ∙ ap (λ (x : Answer). repairChoices x choices) (gave .0), stored .1 .1 ∙ ap (λ (x : Answer). repairPrice x price) (gave .0))),
+        ),
+      ),
     )
 
 pub fitter-repair-spec : {M : Type 1} → statement M

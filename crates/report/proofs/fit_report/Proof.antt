@@ -51,16 +51,16 @@ text-is k r e =
 abbrev read : tie.After-n → tie.After-read
 read k = k .before .before .before
 
-length-answered : (k : tie.After-n) → readAnswer (now (start (read k) .args .text)) (zeros 452) ≡ Length (k .n .given .0 .0)
+length-answered : (k : tie.After-n) → readAnswer (now (start (read k) .args .text)) (zeros 580) ≡ Length (k .n .given .0 .0)
 length-answered k = sym (read k .read .ensures .0) ∙ k .n .given .1
 
 short : (k : tie.After-n) → k .n .given .0 .0 ≤ length (read k .read .last .1 .0)
-short k = omega (arith, read-short (now (start (read k) .args .text)) (zeros 452) (k .n .given .0 .0) (length-answered k), read k .read .kept .1 .0)
+short k = omega (arith, read-short (now (start (read k) .args .text)) (zeros 580) (k .n .given .0 .0) (length-answered k), read k .read .kept .1 .0)
 
 accepted : (k : tie.After-n) → tableVerdict (take (k .n .given .0 .0) (read k .read .last .1 .0)) ≡ Accepted
 accepted k =
     ap (λ (l : List ℕ). tableVerdict (take (k .n .given .0 .0) l)) (read k .read .ensures .1)
-    ∙ read-accepted (now (start (read k) .args .text)) (zeros 452) (k .n .given .0 .0) (length-answered k)
+    ∙ read-accepted (now (start (read k) .args .text)) (zeros 580) (k .n .given .0 .0) (length-answered k)
 
 slice-aggregate-read : tie.Need-slice-aggregate-read
 slice-aggregate-read c = search needs

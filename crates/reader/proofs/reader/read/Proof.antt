@@ -33,7 +33,7 @@ in-range c = parse-exact (now (c .before .before .before .before .before .args .
 
 -- the reader's own bytes at first
 abbrev zeros : List ℕ
-zeros = replicate 452 0
+zeros = replicate 580 0
 
 -- the length is the packed sheet's
 len : (c : tie.After-packed-length) → c .packed-length .result ≡ length (pack (found (c .before .before)))
@@ -43,7 +43,7 @@ len c = c .packed-length .ensures ∙ sym (pack-length (found (c .before .before
 stored : (c : tie.After-pack-sheet) → take (c .before .before .before .packed-length .result) (c .pack-sheet .last .1 .1 .1 .1 .1 .0) ≡ pack (found (c .before .before .before .before .before))
 stored c =
     let n = len (c .before .before .before) in
-    let few : length (pack (found (c .before .before .before .before .before))) ≤ length zeros = omega (arith, length-replicate {A = ℕ} 452 0) in
+    let few : length (pack (found (c .before .before .before .before .before))) ≤ length zeros = omega (arith, length-replicate {A = ℕ} 580 0) in
     ap (take (c .before .before .before .packed-length .result)) (c .pack-sheet .ensures)
     ∙ ap (λ (k : ℕ). take k (sets zeros 0 (pack (found (c .before .before .before .before .before))))) n
     ∙ sets-front (pack (found (c .before .before .before .before .before))) zeros few

@@ -25,7 +25,7 @@ use Rattle.render.proofs.writer.render_table.Tie as tie
 accepted : (c : tie.After-enum-told) → tableVerdict (now (c .before .before .before .before .before .args .table)) ≡ Accepted
 accepted c = sym (c .before .before .check-table .ensures) ∙ c .enum-told .given .1
 
-short : (c : tie.After-enum-told) → length (render (sheetOf (now (c .before .before .before .before .before .args .table)))) ≤ 1800
+short : (c : tie.After-enum-told) → length (render (sheetOf (now (c .before .before .before .before .before .args .table)))) ≤ 2318
 short c =
     let l = now (c .before .before .before .before .before .args .table) in
     let w = counts-within (countsOf l) (header-accepted l (accepted c) .0) in
@@ -33,7 +33,7 @@ short c =
 
 -- the writer's own bytes at first
 abbrev zeros : List ℕ
-zeros = replicate 1800 0
+zeros = replicate 2318 0
 
 -- the length is the sheet's, and the filled part is the sheet
 len : (c : tie.After-write-sheet) → c .write-sheet .result ≡ length (render (sheetOf (now (c .before .before .before .before .before .before .before .args .table))))
@@ -42,7 +42,7 @@ len c = let p = c .write-sheet .ensures .place in omega arith
 stored : (c : tie.After-write-sheet) → take (c .write-sheet .result) (c .write-sheet .last .1 .0) ≡ render (sheetOf (now (c .before .before .before .before .before .before .before .args .table)))
 stored c =
     let text = render (sheetOf (now (c .before .before .before .before .before .before .before .args .table))) in
-    let few : length text ≤ length zeros = omega (arith, short (c .before .before), length-replicate {A = ℕ} 1800 0) in
+    let few : length text ≤ length zeros = omega (arith, short (c .before .before), length-replicate {A = ℕ} 2318 0) in
     ap (take (c .write-sheet .result)) (c .write-sheet .ensures .text)
     ∙ ap (λ (k : ℕ). take k (sets zeros 0 text)) (len c)
     ∙ sets-front text zeros few
@@ -65,7 +65,7 @@ slice-aggregate-write-sheet : tie.Need-slice-aggregate-write-sheet
 slice-aggregate-write-sheet c = search needs
 
 write-sheet-requires : tie.Need-write-sheet-requires
-write-sheet-requires c κs = omega (arith, short (c .before), length-replicate {A = ℕ} 1800 0)
+write-sheet-requires c κs = omega (arith, short (c .before), length-replicate {A = ℕ} 2318 0)
 
 returns-2 : tie.Need-returns-2
 returns-2 c =
@@ -76,7 +76,7 @@ returns-2 c =
 array-share-prefix-text : tie.Need-array-share-prefix-text
 array-share-prefix-text c =
     let text = render (sheetOf (now (c .before .before .before .before .before .before .before .before .before .args .table))) in
-    omega (arith, len (c .before .before), short (c .before .before .before .before), ap length (c .before .before .write-sheet .ensures .text), length-sets zeros 0 text, length-replicate {A = ℕ} 1800 0)
+    omega (arith, len (c .before .before), short (c .before .before .before .before), ap length (c .before .before .write-sheet .ensures .text), length-sets zeros 0 text, length-replicate {A = ℕ} 2318 0)
 
 slice-aggregate-copy-front : tie.Need-slice-aggregate-copy-front
 slice-aggregate-copy-front c = len (c .before .before .before) ∙ sym (ap length (stored (c .before .before .before)))

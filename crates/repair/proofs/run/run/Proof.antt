@@ -74,14 +74,14 @@ beyond c =
     let fit = levels-fit T (accepted (now (start .args .table)) (start .pre .0) .table) in
     same-beyond (levelTotal T) (variableFormula T) _ _ fit (c .search-table .ensures .1 .1 .0) (c .search-table .ensures .1 .1 .1)
 
+enum-known-price : tie.Need-enum-known-price
+enum-known-price c = search needs
+
 enum-known-c : tie.Need-enum-known-c
 enum-known-c c = search needs
 
 enum-known-c-2 : tie.Need-enum-known-c-2
 enum-known-c-2 c = search needs
-
-enum-known-c-3 : tie.Need-enum-known-c-3
-enum-known-c-3 c = search needs
 
 counts-of-requires : tie.Need-counts-of-requires
 counts-of-requires c κs = search needs
@@ -136,9 +136,9 @@ returns c =
     let start = gave .before .before .before .before .before .before .before .before .before .before .before .before in
     let T = tableOf (now (start .args .table)) in
     let list = now (start .args .list) in
-    let told = sym (counts .before .before .c .given .1) ∙ gave .search-table .ensures .0 in
+    let told = sym (counts .before .before .price .given .1) ∙ gave .search-table .ensures .0 in
     let struck = c .before .before .strike-unreached in
-    (ap carried told, (after-found T list _ (searchUnder T (start .args .cap)) _ (counts .counts-of .result .steps) told (gave .search-table .ensures .1 .0) (steps-count counts) (struck .last .1 .1 .0) (struck .ensures), beyond gave))
+    (ap carried told, (after-found T list _ (searchUnder T (start .args .cap)) _ _ (counts .counts-of .result .steps) told (gave .search-table .ensures .1 .0) (steps-count counts) (struck .last .1 .1 .0) (struck .ensures), beyond gave))
 
 same-length-3 : tie.Need-same-length-3
 same-length-3 c = search needs
@@ -152,7 +152,7 @@ returns-2 c =
     let start = gave .before .before .before .before .before .before .before .before .before .before .before .before in
     let T = tableOf (now (start .args .table)) in
     let list = now (start .args .list) in
-    let told = sym (c .before .c2 .given .1) ∙ gave .search-table .ensures .0 in
+    let told = sym (c .before .c .given .1) ∙ gave .search-table .ensures .0 in
     (ap carried told, (after-none T list _ (searchUnder T (start .args .cap)) _ told (gave .search-table .ensures .1 .0), beyond gave))
 
 same-length-5 : tie.Need-same-length-5
@@ -167,7 +167,7 @@ returns-3 c =
     let start = gave .before .before .before .before .before .before .before .before .before .before .before .before in
     let T = tableOf (now (start .args .table)) in
     let list = now (start .args .list) in
-    let told = sym (c .before .c3 .given .1) ∙ gave .search-table .ensures .0 in
+    let told = sym (c .before .c2 .given .1) ∙ gave .search-table .ensures .0 in
     (ap carried told, (after-spent T list _ (searchUnder T (start .args .cap)) _ told (gave .search-table .ensures .1 .0), beyond gave))
 
 pub run-spec : {M : Type 1} → statement M
@@ -180,13 +180,13 @@ run-spec =
     slice-aggregate-search-table
     slice-aggregate-search-table-2
     search-table-requires
-    enum-known-c
+    enum-known-price
     counts-of-requires
     slice-relend-prefix-strike-unreached
     slice-aggregate-strike-unreached
     strike-unreached-requires
+    enum-known-c
     enum-known-c-2
-    enum-known-c-3
     same-length
     same-length-2
     returns

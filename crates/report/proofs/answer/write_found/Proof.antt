@@ -14,7 +14,7 @@ use Rattle.report.proofs.answer.write_found.Statement.{statement}
 use Rattle.report.proofs.answer.write_found.Tie as tie
 
 abbrev start : tie.After-write-answer → tie.Start
-start k = k .before .before .before .before .before .before .before .before
+start k = k .before .before .before .before .before .before .before
 
 abbrev answered : tie.After-put-bytes → tie.After-write-answer
 answered k = k .before .before .before .before .before
@@ -26,13 +26,13 @@ abbrev names : List ℕ
 names = ascii "from to kept\n"
 
 abbrev whole : tie.Start → List ℕ
-whole s = counted "found " (s .args .choices) ++ (names ++ lines s)
+whole s = counted (ascii "found ") (s .args .choices) (s .args .price) ++ (names ++ lines s)
 
 -- what is left behind the answer, and behind the names
 headed : (k : tie.After-write-answer) → let s = start k in Left (now (s .args .out)) 0 (whole s) (k .write-answer .last .0) (k .write-answer .result) (names ++ lines s)
 headed k =
     let s = start k in
-    left-next _ _ _ _ _ (counted "found " (s .args .choices)) _ (left-all (now (s .args .out)) 0 (whole s)) _ _ (k .write-answer .ensures)
+    left-next _ _ _ _ _ (counted (ascii "found ") (s .args .choices) (s .args .price)) _ (left-all (now (s .args .out)) 0 (whole s)) _ _ (k .write-answer .ensures)
 
 named : (k : tie.After-put-bytes) → let s = start (answered k) in Left (now (s .args .out)) 0 (whole s) (k .put-bytes .last .0) (k .put-bytes .result) (lines s)
 named k = left-next _ _ _ _ _ names _ (headed (answered k)) _ _ (k .put-bytes .ensures)
@@ -40,10 +40,10 @@ named k = left-next _ _ _ _ _ names _ (headed (answered k)) _ _ (k .put-bytes .e
 -- the steps that are read are the table's
 same-lines : (k : tie.After-steps-part)
     → let s = start (answered (k .before .before .before)) in
-    keptLines (records stepOf stepWidth (answered (k .before .before .before) .before .before .before .before .counts-of .result .steps) (now (k .steps-part .result))) (now (s .args .list)) ≡ lines s
+    keptLines (records stepOf stepWidth (answered (k .before .before .before) .before .before .before .counts-of .result .steps) (now (k .steps-part .result))) (now (s .args .list)) ≡ lines s
 same-lines k =
     let s = start (answered (k .before .before .before)) in
-    λ i. keptLines (records stepOf stepWidth (answered (k .before .before .before) .before .before .before .before .counts-of .ensures i .steps) (k .steps-part .ensures i)) (now (s .args .list))
+    λ i. keptLines (records stepOf stepWidth (answered (k .before .before .before) .before .before .before .counts-of .ensures i .steps) (k .steps-part .ensures i)) (now (s .args .list))
 
 counts-of-requires : tie.Need-counts-of-requires
 counts-of-requires c κs = search needs
@@ -51,13 +51,10 @@ counts-of-requires c κs = search needs
 slice-aggregate-write-answer : tie.Need-slice-aggregate-write-answer
 slice-aggregate-write-answer c = search needs
 
-slice-aggregate-write-answer-2 : tie.Need-slice-aggregate-write-answer-2
-slice-aggregate-write-answer-2 c = search needs
-
 write-answer-requires : tie.Need-write-answer-requires
 write-answer-requires c κs =
-    let s = c .before .before .before .before .before .before .before in
-    left-room _ _ _ _ _ (counted "found " (s .args .choices)) _ (left-all (now (s .args .out)) 0 (whole s)) (s .pre .1)
+    let s = c .before .before .before .before .before .before in
+    left-room _ _ _ _ _ (counted (ascii "found ") (s .args .choices) (s .args .price)) _ (left-all (now (s .args .out)) 0 (whole s)) (s .pre .1)
 
 slice-aggregate-put-bytes : tie.Need-slice-aggregate-put-bytes
 slice-aggregate-put-bytes c = search needs
@@ -74,7 +71,7 @@ write-steps-requires : tie.Need-write-steps-requires
 write-steps-requires c κs =
     let k = c .before .before .before .before in
     let s = start (answered k) in
-    let count = ap (λ (x : Counts). x .steps) (answered k .before .before .before .before .counts-of .ensures) in
+    let count = ap (λ (x : Counts). x .steps) (answered k .before .before .before .counts-of .ensures) in
     (omega (arith, count, s .pre .0), room-as (k .put-bytes .last .0) (k .put-bytes .result) _ _ (same-lines (c .before)) (left-room-all _ _ _ _ _ _ (named k) (s .pre .1)))
 
 same-length : tie.Need-same-length
@@ -91,7 +88,6 @@ write-found-spec =
     (tie.spec
     counts-of-requires
     slice-aggregate-write-answer
-    slice-aggregate-write-answer-2
     write-answer-requires
     slice-aggregate-put-bytes
     put-bytes-requires

@@ -26,27 +26,21 @@ enum-known-answer-2 c = search needs
 slice-aggregate-write-answer : tie.Need-slice-aggregate-write-answer
 slice-aggregate-write-answer c = search needs
 
-slice-aggregate-write-answer-2 : tie.Need-slice-aggregate-write-answer-2
-slice-aggregate-write-answer-2 c = search needs
-
 write-answer-requires : tie.Need-write-answer-requires
 write-answer-requires c κs =
-    let s = c .before .before .before .before .before .before .before .before .before in
-    room-as (now (s .args .out)) 0 _ _ (told s _ (c .before .before .before .before .answer2 .given .1)) (s .pre .1)
+    let s = c .before .before .before .before .before .before .before .before in
+    room-as (now (s .args .out)) 0 _ _ (told s _ (c .before .before .before .answer2 .given .1)) (s .pre .1)
 
 enum-known-answer-3 : tie.Need-enum-known-answer-3
 enum-known-answer-3 c = search needs
 
-slice-aggregate-write-answer-3 : tie.Need-slice-aggregate-write-answer-3
-slice-aggregate-write-answer-3 c = search needs
-
-slice-aggregate-write-answer-4 : tie.Need-slice-aggregate-write-answer-4
-slice-aggregate-write-answer-4 c = search needs
+slice-aggregate-write-answer-2 : tie.Need-slice-aggregate-write-answer-2
+slice-aggregate-write-answer-2 c = search needs
 
 write-answer-requires-2 : tie.Need-write-answer-requires-2
 write-answer-requires-2 c κs =
-    let s = c .before .before .before .before .before .before .before .before .before in
-    room-as (now (s .args .out)) 0 _ _ (told s _ (c .before .before .before .before .answer3 .given .1)) (s .pre .1)
+    let s = c .before .before .before .before .before .before .before .before in
+    room-as (now (s .args .out)) 0 _ _ (told s _ (c .before .before .before .answer3 .given .1)) (s .pre .1)
 
 enum-known-answer-4 : tie.Need-enum-known-answer-4
 enum-known-answer-4 c = search needs
@@ -69,16 +63,16 @@ same-length-2 c = search needs
 
 returns-2 : tie.Need-returns-2
 returns-2 c =
-    let s = c .before .before .before .before .before .before .before .before .before .before .before .before in
-    stored-as _ _ _ _ _ _ (told s _ (c .before .before .before .before .before .before .before .answer2 .given .1)) (c .before .before .write-answer .ensures)
+    let s = c .before .before .before .before .before .before .before .before .before .before .before in
+    stored-as _ _ _ _ _ _ (told s _ (c .before .before .before .before .before .before .answer2 .given .1)) (c .before .before .write-answer .ensures)
 
 same-length-3 : tie.Need-same-length-3
 same-length-3 c = search needs
 
 returns-3 : tie.Need-returns-3
 returns-3 c =
-    let s = c .before .before .before .before .before .before .before .before .before .before .before .before in
-    stored-as _ _ _ _ _ _ (told s _ (c .before .before .before .before .before .before .before .answer3 .given .1)) (c .before .before .write-answer2 .ensures)
+    let s = c .before .before .before .before .before .before .before .before .before .before .before in
+    stored-as _ _ _ _ _ _ (told s _ (c .before .before .before .before .before .before .answer3 .given .1)) (c .before .before .write-answer2 .ensures)
 
 same-length-4 : tie.Need-same-length-4
 same-length-4 c = search needs
@@ -96,11 +90,9 @@ write-result-spec =
     write-found-requires
     enum-known-answer-2
     slice-aggregate-write-answer
-    slice-aggregate-write-answer-2
     write-answer-requires
     enum-known-answer-3
-    slice-aggregate-write-answer-3
-    slice-aggregate-write-answer-4
+    slice-aggregate-write-answer-2
     write-answer-requires-2
     enum-known-answer-4
     write-refused-requires

@@ -10,7 +10,7 @@ use Rattle.sample_calls.proofs.steps.run_steps.Tie as tie
 
 -- the table of 128 steps
 abbrev written : List ℕ → List ℕ
-written table = set (set (set (set table 1 128) 356 1) 357 0) 358 0
+written table = set (set (set (set table 1 128) 484 1) 485 0) 486 0
 
 stepped-requires : tie.Need-stepped-requires
 stepped-requires c κs = search needs
@@ -31,7 +31,7 @@ array-share-prefix-most : tie.Need-array-share-prefix-most
 array-share-prefix-most c = simp length-set (search needs)
 
 slice-aggregate-print-checked : tie.Need-slice-aggregate-print-checked
-slice-aggregate-print-checked c = sym (length-take-le 359 (written (c .before .stepped .result)) (simp length-set (search needs)))
+slice-aggregate-print-checked c = sym (length-take-le 487 (written (c .before .stepped .result)) (simp length-set (search needs)))
 
 slice-aggregate-print-checked-2 : tie.Need-slice-aggregate-print-checked-2
 slice-aggregate-print-checked-2 c = search needs

@@ -7,7 +7,7 @@ use Rattle.sample_calls.proofs.steps.stepped.Statement.{statement}
 use Rattle.sample_calls.proofs.steps.stepped.Tie as tie
 
 abbrev Inv-loop : tie.InvT-loop
-Inv-loop table₀ j₀ table j = (j ≤ 129) × (length table ≡ 361)
+Inv-loop table₀ j₀ table j = (j ≤ 129) × (length table ≡ 490)
 
 abbrev μ-loop : tie.MeasureT-loop
 μ-loop table₀ j₀ table j = 129 - j
@@ -48,6 +48,18 @@ add-table-2 c = search needs
 array-write-table-5 : tie.Need-array-write-table-5 Inv-loop μ-loop
 array-write-table-5 c = search needs
 
+cast-table-3 : tie.Need-cast-table-3 Inv-loop μ-loop
+cast-table-3 c = search needs
+
+mul-table-3 : tie.Need-mul-table-3 Inv-loop μ-loop
+mul-table-3 c = search needs
+
+add-table-3 : tie.Need-add-table-3 Inv-loop μ-loop
+add-table-3 c = search needs
+
+array-write-table-6 : tie.Need-array-write-table-6 Inv-loop μ-loop
+array-write-table-6 c = search needs
+
 add-j : tie.Need-add-j Inv-loop μ-loop
 add-j c = search needs
 
@@ -78,6 +90,10 @@ stepped-spec =
     mul-table-2
     add-table-2
     array-write-table-5
+    cast-table-3
+    mul-table-3
+    add-table-3
+    array-write-table-6
     add-j
     loop-less
     loop-again

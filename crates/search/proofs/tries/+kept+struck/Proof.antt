@@ -9,8 +9,8 @@ mod Readings
 mod Kept
 mod Struck
 use Rattle.search.proofs.tries.+kept+struck.Proof.Readings.{kept-at, kept-calls, struck-at, struck-calls, μ-kept, μ-struck}
-use Rattle.search.proofs.tries.+kept+struck.Proof.Kept.{kept-step-requires, kept-enum-known-more, kept-enum-told, kept-returns, kept-with-step-requires, kept-slice-aggregate-reach, kept-reach-requires, kept-enum-known-outcome, kept-enum-known-k, kept-kept-requires, kept-enum-known-first, kept-same-length, kept-same-length-2, kept-returns-2, kept-struck-requires, kept-same-length-3, kept-same-length-4, kept-returns-3}
-use Rattle.search.proofs.tries.+kept+struck.Proof.Struck.{struck-step-requires, struck-enum-known-more, struck-enum-told, struck-returns, struck-zero-requires, struck-with-step-requires, struck-slice-aggregate-reach, struck-reach-requires, struck-enum-known-outcome, struck-enum-known-k, struck-kept-requires, struck-same-length, struck-same-length-2, struck-returns-2, struck-same-length-3, struck-same-length-4, struck-returns-3}
+use Rattle.search.proofs.tries.+kept+struck.Proof.Kept.{kept-step-requires, kept-enum-known-more, kept-enum-told, kept-returns, kept-with-step-requires, kept-slice-aggregate-reach, kept-reach-requires, kept-enum-known-found, kept-enum-known-k, kept-kept-requires, kept-enum-known-first, kept-enum-told-2, kept-same-length, kept-same-length-2, kept-returns-2, kept-struck-requires, kept-same-length-3, kept-same-length-4, kept-returns-3}
+use Rattle.search.proofs.tries.+kept+struck.Proof.Struck.{struck-step-requires, struck-enum-known-more, struck-enum-told, struck-returns, struck-zero-requires, struck-with-step-requires, struck-slice-aggregate-reach, struck-reach-requires, struck-enum-known-found, struck-enum-known-k, struck-kept-requires, struck-same-length, struck-same-length-2, struck-returns-2, struck-same-length-3, struck-same-length-4, struck-returns-3}
 
 pub +kept+struck-spec : {M : Type 1} → statement M
 +kept+struck-spec = close μ-kept μ-struck
@@ -22,10 +22,11 @@ pub +kept+struck-spec : {M : Type 1} → statement M
     (kept-with-step-requires t)
     (kept-slice-aggregate-reach t)
     (kept-reach-requires t)
-    (kept-enum-known-outcome t)
+    (kept-enum-known-found t)
     (kept-enum-known-k t)
     (kept-kept-requires t)
     (kept-enum-known-first t)
+    (kept-enum-told-2 t)
     (kept-same-length t)
     (kept-same-length-2 t)
     (kept-returns-2 t)
@@ -42,7 +43,7 @@ pub +kept+struck-spec : {M : Type 1} → statement M
     (struck-with-step-requires t)
     (struck-slice-aggregate-reach t)
     (struck-reach-requires t)
-    (struck-enum-known-outcome t)
+    (struck-enum-known-found t)
     (struck-enum-known-k t)
     (struck-kept-requires t)
     (struck-same-length t)

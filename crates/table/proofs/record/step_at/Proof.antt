@@ -12,9 +12,13 @@ use Rattle.table.proofs.record.step_at.Tie as tie
 
 returns-2 : tie.Need-returns-2
 returns-2 c =
-    let a = c .before .before .before .before .args in
+    let a = c .before .before .before .before .before .args in
     let l = now (a .section) in
-    λ i. record { from = sym (field-first (stepWidth * a .i) l) i; to = sym (getD-drop (stepWidth * a .i) l 1 0) i }
+    λ i. record {
+      from = sym (field-first (stepWidth * a .i) l) i;
+      to = sym (getD-drop (stepWidth * a .i) l 1 0) i;
+      price = sym (getD-drop (stepWidth * a .i) l 2 0) i;
+    }
 
 cut-step-requires : tie.Need-cut-step-requires
 cut-step-requires c κs = search needs
@@ -40,6 +44,15 @@ shared-slice-read-t10 c = search needs
 cast-t11 : tie.Need-cast-t11
 cast-t11 c = omega (arith, c .shared-slice-known3 .given (stepWidth * c .before .before .before .before .args .i + 1))
 
+add-t12 : tie.Need-add-t12
+add-t12 c = search needs
+
+shared-slice-read-t14 : tie.Need-shared-slice-read-t14
+shared-slice-read-t14 c = search needs
+
+cast-t15 : tie.Need-cast-t15
+cast-t15 c = omega (arith, c .shared-slice-known4 .given (stepWidth * c .before .before .before .before .before .args .i + 2))
+
 pub step-at-spec : {M : Type 1} → statement M
 step-at-spec =
     tie.close
@@ -52,4 +65,7 @@ step-at-spec =
     add-t5
     shared-slice-read-t10
     cast-t11
+    add-t12
+    shared-slice-read-t14
+    cast-t15
     returns-2)

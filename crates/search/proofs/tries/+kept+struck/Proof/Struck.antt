@@ -15,11 +15,12 @@ use Rattle.closure.specs.Knowledge.{Sized}
 use Rattle.propagate.specs.Memory.{memory}
 use Rattle.closure.specs.Closes.{Between}
 use Rattle.search.specs.declared.choices.Choice.the-variants.{Next}
+use Rattle.search.specs.Search.{Best}
 use Rattle.search.specs.Counted.{counted}
 use Rattle.search.specs.Stands.{GoesOn, Comes, stepLiterals}
 use Rattle.search.proofs.Handing.{handed-table, handed-on, handed-zeroed}
 use Rattle.search.proofs.Chosen.{chosen-between, chosen-sized}
-use Rattle.search.proofs.TryLaws.{try-fine, try-spent, try-ended, try-goes, try-onward}
+use Rattle.search.proofs.TryLaws.{try-fine, try-cut, try-ended, try-goes, try-onward}
 use Rattle.search.proofs.tries.struck.Reads as struck
 use Rattle.search.proofs.tries.+kept+struck.Lts-struck as struck-lts
 use Rattle.search.proofs.tries.+kept+struck.Proof.Readings.{struck-at, struck-calls}
@@ -43,11 +44,11 @@ module _ (t : ℕ) where
   struck-enum-told c = search needs
 
   pub struck-returns : struck-lts.Need-returns (struck-calls t) (struck-at t) struck.Post
-  struck-returns c P m g =
+  struck-returns c P m b g =
       let step = c .before .before in
       let s = step .before .before .before .before .before .before in
-      try-spent (tableOf (now (s .args .table))) (struck-table s) (s .args .count) (s .args .j) (s .args .rows) P m (g .stands) false
-      (sym (c .enum-told .given .1) ∙ step .step .ensures) (now (s .args .list))
+      try-cut (tableOf (now (s .args .table))) (struck-table s) (s .args .count) (s .args .j) (s .args .rows) P m (g .stands) false
+      (sym (c .enum-told .given .1) ∙ step .step .ensures) b (now (s .args .find))
 
   pub struck-zero-requires : struck-lts.Need-zero-requires (struck-calls t) (struck-at t) struck.Post
   struck-zero-requires c κs = search needs
@@ -65,12 +66,12 @@ module _ (t : ℕ) where
       let s = zero .before .before .before .before .before .before .before .before .before .before .before in
       let T = tableOf (now (s .args .table)) in
       let h = s .pre .1 .0 in
-      let inside = s .pre .1 .1 .1 .2 .stands .inside in (
+      let inside = s .pre .1 .1 .1 .3 .stands .inside in (
         h .setting,
         (
           subst₂ (λ r w. Sized T (memory r w)) (sym (with-step .with-step .ensures)) (sym (zero .zero .ensures))
               (chosen-sized T (struck-table s) (s .args .rows) (replicate (length (now (s .args .words))) 0) (handed-zeroed h) false (s .args .j) inside),
-          h .list-size,
+          h .room,
         ),
       )
 
@@ -79,10 +80,11 @@ module _ (t : ℕ) where
       → let more = c .before .before .before .before .before .before .before .before .before .before in
       let s = more .before .before .before .before .before .before .before .before in
       let T = tableOf (now (s .args .table)) in
-      (P : List (Literal ℕ)) (m : Marks) → GoesOn T (s .args .j) (memory (s .args .rows) (replicate (length (now (s .args .words))) 0)) P m
-      → Comes T (neg (s .args .j) ∷ P) (more .more .given .0 .0 .made) (memory (c .reach .last .1 .1 .1 .1 .0) (c .reach .last .1 .1 .1 .1 .1 .1 .1 .0))
-      (now (s .args .list)) (c .reach .last .1 .1 .1 .1 .1 .1 .0) (c .reach .result)
-  struck-comes c P m g =
+      (P : List (Literal ℕ)) (m : Marks) (b : Best)
+      → GoesOn T (s .args .j) (memory (s .args .rows) (replicate (length (now (s .args .words))) 0)) (s .args .best) (now (s .args .find)) P m b
+      → Comes T (s .args .best) (memory (c .reach .last .1 .1 .1 .1 .0) (c .reach .last .1 .1 .1 .1 .1 .1 .1 .0)) (c .reach .last .1 .1 .1 .1 .1 .1 .0) (neg (s .args .j) ∷ P) b
+      (c .reach .result)
+  struck-comes c P m b g =
       let with-step = c .before .before .before .before in
       let zero = with-step .before .before .before in
       let s = zero .before .before .before .before .before .before .before .before .before .before .before in
@@ -90,20 +92,20 @@ module _ (t : ℕ) where
       let j = s .args .j in
       let n = length (now (s .args .words)) in
       let between = chosen-between T (struck-table s) (s .args .rows) (replicate n 0) (handed-zeroed (s .pre .1 .0)) false j (g .stands .inside) P (g .between) in
-      c .reach .ensures .comes (neg j ∷ P) (try-fine T (struck-table s) (s .args .count) j (s .args .rows) P m (g .stands) false)
-      (subst₂ (λ r w. Between T (stepLiterals (neg j ∷ P)) (memory r w)) (sym (with-step .with-step .ensures)) (sym (zero .zero .ensures)) between)
+      c .reach .ensures .comes (neg j ∷ P) b (try-fine T (struck-table s) (s .args .count) j (s .args .rows) P m (g .stands) false)
+      (subst₂ (λ r w. Between T (stepLiterals (neg j ∷ P)) (memory r w)) (sym (with-step .with-step .ensures)) (sym (zero .zero .ensures)) between) (g .stores)
 
   -- the buffers are as long after it
   struck-lengths : (c : struck-lts.After-reach (struck-calls t) (struck-at t) struck.Post)
       → let s = c .before .before .before .before .before .before .before .before .before .before .before .before .before .before .before .before .before .before in
-      (length (c .reach .last .1 .1 .1 .1 .1 .1 .0) ≡ length (now (s .args .list))) × (length (c .reach .last .1 .1 .1 .1 .1 .1 .1 .0) ≡ length (now (s .args .words)))
+      (length (c .reach .last .1 .1 .1 .1 .1 .1 .0) ≡ length (now (s .args .find))) × (length (c .reach .last .1 .1 .1 .1 .1 .1 .1 .0) ≡ length (now (s .args .words)))
   struck-lengths c = (
     c .reach .kept .1 .1 .1 .1 .1 .1 .0,
     c .reach .kept .1 .1 .1 .1 .1 .1 .1 .0 ∙ c .before .before .before .before .before .before .before .zero .kept .0,
   )
 
-  pub struck-enum-known-outcome : struck-lts.Need-enum-known-outcome (struck-calls t) (struck-at t) struck.Post
-  struck-enum-known-outcome c = search needs
+  pub struck-enum-known-found : struck-lts.Need-enum-known-found (struck-calls t) (struck-at t) struck.Post
+  struck-enum-known-found c = search needs
 
   pub struck-enum-known-k : struck-lts.Need-enum-known-k (struck-calls t) (struck-at t) struck.Post
   struck-enum-known-k c = search needs
@@ -116,10 +118,10 @@ module _ (t : ℕ) where
       let s = more .before .before .before .before .before .before .before .before in
       let T = tableOf (now (s .args .table)) in
       let stand = s .pre .1 .1 .1 in
-      let comes = struck-comes reach (stand .0) (stand .1) (stand .2) in
+      let comes = struck-comes reach (stand .0) (stand .1) (stand .2) (stand .3) in
       let lengths = struck-lengths reach in
-      let goes = try-goes T (struck-table s) (s .args .count) (s .args .j) (s .args .rows) (stand .0) (stand .1) (stand .2 .stands) false
-      (more .more .given .0 .0) (struck-next more) _ _ _ _ comes (opened .k .given .0 .0) (opened .k .given .1) (s .pre .1 .1 .0) in (
+      let goes = try-goes T (struck-table s) (s .args .count) (s .args .j) (s .args .rows) (stand .0) (stand .1) (stand .3 .stands) false
+      (more .more .given .0 .0) (struck-next more) (stand .2) _ _ _ _ comes (opened .k .given .0 .0) (opened .k .given .1) (s .pre .1 .1 .0) in (
         omega (arith, goes .0, s .pre .0),
         (handed-on (s .pre .1 .0) (reach .reach .ensures .sized) (lengths .1) (lengths .0), (goes .1, goes .2)),
       )
@@ -131,30 +133,30 @@ module _ (t : ℕ) where
   struck-same-length-2 c = struck-lengths (c .before .before .before .before .before .before .before .before) .1
 
   pub struck-returns-2 : struck-lts.Need-returns-2 (struck-calls t) (struck-at t) struck.Post
-  struck-returns-2 c P m g =
+  struck-returns-2 c P m b g =
       let ended = c .before in
       let reach = ended .before .before .before .before .before .before .before in
       let more = reach .before .before .before .before .before .before .before .before .before .before in
       let s = more .before .before .before .before .before .before .before .before in
       try-ended (tableOf (now (s .args .table))) (struck-table s) (s .args .count) (s .args .j) (s .args .rows) P m (g .stands) false
-      (more .more .given .0 .0) (struck-next more) _ _ _ _ (struck-comes reach P m g) (ended .outcome .given .0 .0) (ended .outcome .given .1)
+      (more .more .given .0 .0) (struck-next more) b _ _ _ _ (struck-comes reach P m b g) (ended .found .given .0 .0) (ended .found .given .1)
 
   pub struck-same-length-3 : struck-lts.Need-same-length-3 (struck-calls t) (struck-at t) struck.Post
   struck-same-length-3 c =
       let kept = c .before .before .before .before in
-      kept .kept .kept .1 .1 .1 .1 .1 .1 .1 .0 ∙ struck-lengths (kept .before .before .before .before .before .before .before .before .before .before .before) .0
+      kept .kept .kept .1 .1 .1 .1 .1 .1 .1 .1 .0 ∙ struck-lengths (kept .before .before .before .before .before .before .before .before .before .before .before) .0
 
   pub struck-same-length-4 : struck-lts.Need-same-length-4 (struck-calls t) (struck-at t) struck.Post
   struck-same-length-4 c =
       let kept = c .before .before .before .before in
-      kept .kept .kept .1 .1 .1 .1 .1 .1 .1 .1 .0 ∙ struck-lengths (kept .before .before .before .before .before .before .before .before .before .before .before) .1
+      kept .kept .kept .1 .1 .1 .1 .1 .1 .1 .1 .1 .0 ∙ struck-lengths (kept .before .before .before .before .before .before .before .before .before .before .before) .1
 
   pub struck-returns-3 : struck-lts.Need-returns-3 (struck-calls t) (struck-at t) struck.Post
-  struck-returns-3 c P m g =
+  struck-returns-3 c P m b g =
       let kept = c .before .before .before .before in
       let opened = kept .before .before .before .before in
       let reach = opened .before .before .before .before .before .before .before in
       let more = reach .before .before .before .before .before .before .before .before .before .before in
       let s = more .before .before .before .before .before .before .before .before in
       try-onward (tableOf (now (s .args .table))) (struck-table s) (s .args .count) (s .args .j) (s .args .rows) P m (g .stands) false
-      (more .more .given .0 .0) (struck-next more) _ _ _ _ (struck-comes reach P m g) (opened .k .given .0 .0) (opened .k .given .1) _ _ (kept .kept .ensures)
+      (more .more .given .0 .0) (struck-next more) b _ _ _ _ (struck-comes reach P m b g) (opened .k .given .0 .0) (opened .k .given .1) _ _ (kept .kept .ensures)
