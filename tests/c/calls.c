@@ -232,7 +232,7 @@ struct room {
 struct repaired {
     unsigned number;
     uint64_t choices;
-    uint32_t price;
+    uint32_t price, settled;
     const uint8_t *list;
     size_t list_len, variables;
 };
@@ -240,22 +240,23 @@ struct repaired {
 /* A room with some to spare; the bytes and the variables of the largest table. */
 enum { ROOM = 256, LARGEST = 580, VARIABLES = 223392 };
 
-static struct repaired found(uint64_t choices, uint32_t price, const uint8_t *list, size_t list_len, size_t variables)
+static struct repaired found(uint64_t choices, uint32_t price, uint32_t settled, const uint8_t *list, size_t list_len, size_t variables)
 {
-    struct repaired wanted = {0, choices, price, list, list_len, variables};
+    struct repaired wanted = {0, choices, price, settled, list, list_len, variables};
     return wanted;
 }
 
 /* None (14) or spent (15), also after a find: no list, and the price 0. */
-static struct repaired stopped(unsigned number, uint64_t choices, size_t variables)
+static struct repaired stopped(unsigned number, uint64_t choices, uint32_t settled, size_t variables)
 {
-    struct repaired wanted = {number, choices, 0, NULL, 0, variables};
+    struct repaired wanted = {number, choices, 0, settled, NULL, 0, variables};
     return wanted;
 }
 
+/* Nothing is stored. */
 static struct repaired refused(unsigned number)
 {
-    struct repaired wanted = {number, LENT64, LENT32, NULL, 0, 0};
+    struct repaired wanted = {number, LENT64, LENT32, LENT32, NULL, 0, 0};
     return wanted;
 }
 
@@ -268,17 +269,18 @@ static void expect_zeros(const char *what, const uint8_t *bytes, const uint32_t 
         expect(what, words[i], i < zeros ? 0 : LENT32);
 }
 
-/* Repair: the answer, the choices, the price, and every entry of the three buffers. */
+/* Repair: the answer, the choices, the price, the settled steps, and every entry of the three buffers. */
 static void repair(const char *what, const uint8_t *table, size_t table_len, uint64_t cap, struct room room, struct repaired wanted)
 {
     uint8_t *list = lend(room.list), *bytes = lend(room.bytes);
     uint32_t *words = lend(room.words * sizeof *words);
     uint64_t *choices = lend(sizeof *choices);
-    uint32_t *price = lend(sizeof *price);
+    uint32_t *price = lend(sizeof *price), *settled = lend(sizeof *settled);
     const uint8_t *copy = lend_copy(table, table_len);
-    expect(what, fitter_repair(copy, table_len, cap, list, room.list, bytes, room.bytes, words, room.words, choices, price), wanted.number);
+    expect(what, fitter_repair(copy, table_len, cap, list, room.list, bytes, room.bytes, words, room.words, choices, price, settled), wanted.number);
     expect(what, *choices == wanted.choices, 1);
     expect(what, *price, wanted.price);
+    expect(what, *settled, wanted.settled);
     expect_bytes(what, list, room.list, wanted.list, wanted.list_len);
     expect_zeros(what, bytes, words, room, wanted.variables);
     take_back();
@@ -324,33 +326,35 @@ static void repair_no_list(const uint8_t *no_step)
     uint8_t *bytes = lend(2);
     uint32_t *words = lend(2 * sizeof *words);
     uint64_t *choices = lend(sizeof *choices);
-    uint32_t *price = lend(sizeof *price);
+    uint32_t *price = lend(sizeof *price), *settled = lend(sizeof *settled);
     struct room room = {0, 2, 2};
-    expect("repair with no list", fitter_repair(lend_copy(no_step, 10), 10, 0, NULL, 0, bytes, 2, words, 2, choices, price), 14);
+    expect("repair with no list", fitter_repair(lend_copy(no_step, 10), 10, 0, NULL, 0, bytes, 2, words, 2, choices, price, settled), 14);
     expect("repair with no list: choices", *choices == 0, 1);
     expect("repair with no list: price", *price, 0);
+    expect("repair with no list: settled steps", *settled, 0);
     expect_zeros("repair with no list: buffers", bytes, words, room, 2);
     take_back();
 }
 
 /* The sample makes 6 choices whatever its prices, and strikes the step 1 2 before what is not reached: that one's price is reported, not that of
- * the loop at 2. It is found with 4 of the choices; with these spent, or one more, it is lost. */
+ * the loop at 2. It is found with 4 of the choices; with these spent, or one more, it is lost. Before the first choice one step is settled, that
+ * from 0 to 1, the only one out of the initial state; at any price and with any cap. */
 static void sample_prices(void)
 {
     static const uint8_t kept[4] = {1, 1, 0, 0};
-    repairs_at("repair the sheet", sample, SAMPLE, 1000000, found(6, 3, kept, 4, 100));
-    repairs_at("repair the sheet, greatest cap", sample, SAMPLE, UINT64_MAX, found(6, 3, kept, 4, 100));
-    repairs_at("repair the sheet, cap 6", sample, SAMPLE, 6, found(6, 3, kept, 4, 100));
+    repairs_at("repair the sheet", sample, SAMPLE, 1000000, found(6, 3, 1, kept, 4, 100));
+    repairs_at("repair the sheet, greatest cap", sample, SAMPLE, UINT64_MAX, found(6, 3, 1, kept, 4, 100));
+    repairs_at("repair the sheet, cap 6", sample, SAMPLE, 6, found(6, 3, 1, kept, 4, 100));
     for (uint64_t cap = 0; cap < 6; cap++)
-        repairs_at("repair the sheet, cap below 6", sample, SAMPLE, cap, stopped(15, cap, 100));
+        repairs_at("repair the sheet, cap below 6", sample, SAMPLE, cap, stopped(15, cap, 1, 100));
     for (unsigned step = 0; step < 4; step++)
         for (unsigned price = 0; price < 256; price++) {
             uint8_t table[SAMPLE];
             struct room needed = {4, 100, 100};
             memcpy(table, sample, SAMPLE);
             table[STEPS + 3 * step + 2] = (uint8_t)price;
-            repair("repair the sheet with another price", table, SAMPLE, 6, needed, found(6, table[STEPS + 8], kept, 4, 100));
-            repair("repair the sheet with another price, cap 5", table, SAMPLE, 5, needed, stopped(15, 5, 100));
+            repair("repair the sheet with another price", table, SAMPLE, 6, needed, found(6, table[STEPS + 8], 1, kept, 4, 100));
+            repair("repair the sheet with another price, cap 5", table, SAMPLE, 5, needed, stopped(15, 5, 1, 100));
         }
 }
 
@@ -366,11 +370,11 @@ static void either_step(uint8_t first, uint8_t second)
         2, 0, 0, 2, 1, 0, 6, 0, 0, 6, 1, 0, 5, 2, 3,
     };
     const uint64_t choices = first < second ? 6 : 4;
-    const struct repaired wanted = first < second ? found(6, first, to_2, 4, 30) : found(4, second, to_1, 4, 30);
+    const struct repaired wanted = first < second ? found(6, first, 0, to_2, 4, 30) : found(4, second, 0, to_1, 4, 30);
     repairs_at("repair one of two steps", table, 40, choices, wanted);
     repairs_at("repair one of two steps, greatest cap", table, 40, UINT64_MAX, wanted);
     for (uint64_t cap = 0; cap < choices; cap++)
-        repairs_at("repair one of two steps, spent", table, 40, cap, stopped(15, cap, 30));
+        repairs_at("repair one of two steps, spent", table, 40, cap, stopped(15, cap, 0, 30));
 }
 
 /* State 0 may keep its loop or the way round by state 1, not both. To strike the loop settles every step with no choice more; it is a find only
@@ -384,13 +388,14 @@ static void loop_or_round(uint8_t first, uint8_t second)
         0, 0, first, 0, 1, second, 1, 0, 7,
         2, 0, 0, 3, 0, 0, 6, 0, 0, 6, 1, 0, 5, 2, 3,
     };
-    const struct repaired wanted = first < second ? found(4, first, round, 3, 21) : found(4, second, by_loop, 3, 21);
+    const struct repaired wanted = first < second ? found(4, first, 0, round, 3, 21) : found(4, second, 0, by_loop, 3, 21);
     repairs_at("repair a loop or a way round", table, 34, 4, wanted);
     for (uint64_t cap = 0; cap < 4; cap++)
-        repairs_at("repair a loop or a way round, spent", table, 34, cap, stopped(15, cap, 21));
+        repairs_at("repair a loop or a way round, spent", table, 34, cap, stopped(15, cap, 0, 21));
 }
 
-/* A loop at state 0, and 127 steps at 255 each that only lead to dead ends: they are struck before any choice, and no repair costs more. */
+/* A loop at state 0, and 127 steps at 255 each that only lead to dead ends: they are struck before any choice, and no repair costs more. The loop is
+ * kept before any choice too, so all 128 are settled, and no table settles more. */
 static void dearest(void)
 {
     const uint8_t counts[4] = {32, 128, 1, 0}, node[3] = {1, 0, 0};
@@ -405,7 +410,59 @@ static void dearest(void)
             table[at++] = 255;
         }
     memcpy(table + at, node, 3);
-    repairs_at("repair at the highest price", table, sizeof table, 0, found(0, 127 * 255, list, 128, 192));
+    repairs_at("repair at the highest price", table, sizeof table, 0, found(0, 127 * 255, 128, list, 128, 192));
+}
+
+/* Two of five steps lead to a dead end, state 2. They are struck before any choice, and count as kept ones would. Nothing is known of the other three
+ * by then, though the loop at 1 has to stay once the step to 1 does. */
+static void dead_ends(void)
+{
+    static const uint8_t list[5] = {1, 0, 1, 1, 0};
+    static const uint8_t table[31] = {
+        3, 5, 1, 0,
+        1, 0, 0, 0, 0, 0, 0, 0, 0,
+        0, 0, 9, 0, 2, 3, 0, 1, 9, 1, 1, 9, 1, 2, 4,
+        1, 0, 0,
+    };
+    repairs_at("repair with dead ends", table, 31, 4, found(4, 7, 2, list, 5, 11));
+    for (uint64_t cap = 0; cap < 4; cap++)
+        repairs_at("repair with dead ends, spent", table, 31, cap, stopped(15, cap, 2, 11));
+}
+
+/* From state 0 one step leads to state 1 and its loop. Both have to stay: with the rule "true" (kind 1) they are settled, and that is all. With
+ * "false" (kind 0) the closure fails, and then they do not count. */
+static void one_way(uint8_t kind)
+{
+    static const uint8_t list[2] = {1, 1};
+    const uint8_t table[19] = {2, 2, 1, 0, 1, 0, 0, 0, 0, 0, 0, 1, 5, 1, 1, 5, kind, 0, 0};
+    repairs_at("repair one way on", table, 19, 0, kind == 1 ? found(0, 0, 2, list, 2, 6) : stopped(14, 0, 0, 6));
+}
+
+/* Three steps in a row lead to a dead end and are struck one after the other. Without a loop at state 0 nothing is left to keep, so the closure fails
+ * and none of them counts; with it they count, and so does the loop. */
+static void way_to_dead_end(uint8_t loops)
+{
+    static const uint8_t list[4] = {0, 0, 0, 1};
+    const uint8_t e = 3 + loops;
+    const size_t len = 19u + 3u * e;
+    uint8_t table[31] = {4, e, 1, 0, 1, 0, 0, 0, 0, 0, 0, 0, 0, 0, 0, 0, 0, 1, 1, 1, 2, 2, 2, 3, 4};
+    table[len - 3] = 1;
+    repairs_at("repair a way to a dead end", table, len, 0, loops ? found(0, 7, 4, list, 4, 12) : stopped(14, 0, 0, 11));
+}
+
+/* The rule says of the step from 0 to 1, in two ways, that it is kept and is struck. Each choice of it fails, so there is none; but the closure of
+ * nothing does not fail, and has the step to the dead end settled as struck. */
+static void none_with_settled(void)
+{
+    static const uint8_t table[43] = {
+        3, 4, 6, 1,
+        1, 0, 0, 0, 1, 0, 0, 0, 0,
+        0, 1, 1, 0, 0, 1, 1, 1, 1, 0, 2, 1,
+        2, 0, 0, 7, 0, 0, 3, 1, 0, 4, 1, 2, 4, 2, 1, 5, 3, 4,
+    };
+    repairs_at("repair none with a settled step", table, 43, 2, stopped(14, 2, 1, 29));
+    for (uint64_t cap = 0; cap < 2; cap++)
+        repairs_at("repair none with a settled step, spent", table, 43, cap, stopped(15, cap, 1, 29));
 }
 
 static void repairs(void)
@@ -426,11 +483,17 @@ static void repairs(void)
     loop_or_round(5, 5);
     loop_or_round(0, 0);
     dearest();
+    dead_ends();
+    one_way(0);
+    one_way(1);
+    way_to_dead_end(0);
+    way_to_dead_end(1);
+    none_with_settled();
 
     /* p0 releases p1, at one state with a loop */
     for (uint8_t label = 0; label < 4; label++) {
         const uint8_t release[19] = {1, 1, 3, 2, 1, label, 0, 0, 0, 8, 2, 0, 0, 2, 1, 0, 8, 0, 1};
-        repairs_at("repair a release", release, 19, 0, label < 2 ? stopped(14, 0, 9) : found(0, 0, loop, 1, 9));
+        repairs_at("repair a release", release, 19, 0, label < 2 ? stopped(14, 0, 0, 9) : found(0, 0, 1, loop, 1, 9));
     }
     /* p0 until p1, and p1 eventually or always, there: all say p1. Kinds 12 to 15 have a variable less for each level and state. */
     for (uint8_t label = 0; label < 4; label++) {
@@ -438,12 +501,12 @@ static void repairs(void)
             const uint8_t a = kind < 12 ? 0 : 1, b = kind < 12 ? 1 : 0;
             const uint8_t rule[19] = {1, 1, 3, 2, 1, label, 0, 0, 0, 8, 2, 0, 0, 2, 1, 0, kind, a, b};
             const size_t v = kind < 12 ? 9 : 8;
-            repairs_at("repair a fixed point", rule, 19, 0, label < 2 ? stopped(14, 0, v) : found(0, 0, loop, 1, v));
+            repairs_at("repair a fixed point", rule, 19, 0, label < 2 ? stopped(14, 0, 0, v) : found(0, 0, 1, loop, 1, v));
         }
     }
-    repairs_at("repair with two initial states", starts, 19, 0, found(0, 6, first, 2, 6));
-    repairs_at("repair a dead end", dead_end, 16, 0, stopped(14, 0, 5));
-    repairs_at("repair with no step", no_step, 10, 0, stopped(14, 0, 2));
+    repairs_at("repair with two initial states", starts, 19, 0, found(0, 6, 2, first, 2, 6));
+    repairs_at("repair a dead end", dead_end, 16, 0, stopped(14, 0, 0, 5));
+    repairs_at("repair with no step", no_step, 10, 0, stopped(14, 0, 0, 2));
     repair_no_list(no_step);
 
     uint8_t table[430], reached[128];
@@ -451,10 +514,10 @@ static void repairs(void)
         reached[j] = j % 12 != 11;
     struct room room = {ROOM, ROOM, ROOM};
     size_t len = many_steps(table, 128);
-    repairs_at("repair 128 steps", table, len, 256, found(256, 0, reached, 128, 152));
+    repairs_at("repair 128 steps", table, len, 256, found(256, 0, 0, reached, 128, 152));
     for (uint64_t cap = 127; cap < 256; cap += 64)
-        repairs_at("repair 128 steps, spent", table, len, cap, stopped(15, cap, 152));
-    repairs_at("repair 128 steps, spent behind the find", table, len, 128, stopped(15, 128, 152));
+        repairs_at("repair 128 steps, spent", table, len, cap, stopped(15, cap, 0, 152));
+    repairs_at("repair 128 steps, spent behind the find", table, len, 128, stopped(15, 128, 0, 152));
     len = many_steps(table, 129);
     repair("repair 129 steps", table, len, 256, room, refused(3));
 }
@@ -537,11 +600,11 @@ static void largest_calls(void)
     for (unsigned s = 0; s < 32; s++)
         table[4 + 3 * s] = 1;
     expect("judge the largest table, all states initial", judge(table, LARGEST, all, 128), 0);
-    repair("repair the largest table, all states initial", table, LARGEST, 256, needed, found(256, 0, all, 128, VARIABLES));
+    repair("repair the largest table, all states initial", table, LARGEST, 256, needed, found(256, 0, 0, all, 128, VARIABLES));
     largest(table);
-    repair("repair the largest table", table, LARGEST, 256, needed, found(256, 0, reached, 128, VARIABLES));
-    repair("repair the largest table, cap 255", table, LARGEST, 255, needed, stopped(15, 255, VARIABLES));
-    repair("repair the largest table, cap 127", table, LARGEST, 127, needed, stopped(15, 127, VARIABLES));
+    repair("repair the largest table", table, LARGEST, 256, needed, found(256, 0, 0, reached, 128, VARIABLES));
+    repair("repair the largest table, cap 255", table, LARGEST, 255, needed, stopped(15, 255, 0, VARIABLES));
+    repair("repair the largest table, cap 127", table, LARGEST, 127, needed, stopped(15, 127, 0, VARIABLES));
     repair("repair the largest table, one word short", table, LARGEST, 256, short_by_one, refused(10));
     size_t text_len = largest_sheet(table, text);
     read_text("read the largest sheet", text, text_len, LARGEST, 0, table, LARGEST);

@@ -1,6 +1,6 @@
 // Repair's search a second time, in the plain way: the net as explicit clauses, and the search over them with a counter for each clause and a
-// trail to undo. The list that it finds is the one before striking. Written from the scope's text and A1 and A4 of document 02; it has nothing of
-// the library.
+// trail to undo. The list that it finds is the one before striking. Written from the scope's text and A1, A4 and A5 of document 02; it has nothing
+// of the library.
 #![allow(dead_code)]
 
 // A literal is twice its variable's number, and one more where it is the opposite. Steps are the first variables.
@@ -185,6 +185,17 @@ impl<'a> Search<'a> {
         good
     }
 
+    // The closure of nothing: what the clauses of one literal lead to; false where it fails.
+    fn close_nothing(&mut self) -> bool {
+        let units: Vec<usize> = (0..self.left.len()).filter(|&c| self.left[c] == 1).collect();
+        units.iter().all(|&c| self.unit(c)) && self.close()
+    }
+
+    // How many steps the trail has, kept or struck.
+    fn settled(&self) -> u32 {
+        self.trail.iter().filter(|&&l| l / 2 < self.net.steps).count() as u32
+    }
+
     // Forgets all but the first `mark` of the trail.
     fn undo(&mut self, mark: usize) {
         while self.trail.len() > mark {
@@ -231,20 +242,23 @@ pub struct Answer {
     pub number: u32,
     pub choices: u64,
     pub price: u32,
+    // how many steps are settled before the first choice, 0 where the closure of nothing fails
+    pub settled: u32,
     pub list: Vec<u8>,
 }
 
 // 0, the list and its price; or 14 or 15, with no list and the price 0.
 pub fn search(net: &Net, cap: u64) -> Answer {
     let mut search = Search::new(net, cap);
-    let units: Vec<usize> = (0..search.left.len()).filter(|&c| search.left[c] == 1).collect();
-    let ended = !units.iter().all(|&c| search.unit(c)) || search.search(0);
+    let fails = !search.close_nothing();
+    let settled = if fails { 0 } else { search.settled() };
+    let ended = fails || search.search(0);
     let (number, (price, list)) = match search.cheapest {
         _ if !ended => (15, (0, vec![])),
         Some(find) => (0, find),
         None => (14, (0, vec![])),
     };
-    Answer { number, choices: search.choices, price, list }
+    Answer { number, choices: search.choices, price, settled, list }
 }
 
 pub fn repair(table: &[u8], cap: u64) -> Answer {

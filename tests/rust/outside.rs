@@ -1,4 +1,4 @@
-// Compares all five calls of the library with a second reading of the scope's text and A1 to A4 of document 02, on drawn and damaged input, for
+// Compares all five calls of the library with a second reading of the scope's text and A1 to A5 of document 02, on drawn and damaged input, for
 // some seconds.
 // Arguments: seed (1), seconds (10). Prints how many calls agree, by kind and number; at the first difference its input, and ends with 1.
 mod clauses;
@@ -7,6 +7,8 @@ mod striking;
 
 #[path = "outside/calls.rs"]
 mod calls;
+#[path = "outside/closure.rs"]
+mod closure;
 #[path = "outside/damage.rs"]
 mod damage;
 #[path = "outside/draft.rs"]

@@ -243,10 +243,10 @@ struct Lent {
 }
 
 fn library(lent: &mut Lent, table: &[u8], cap: u64) -> clauses::Answer {
-    let (mut choices, mut price) = (0, 0);
-    let number = fitter::repair(table, cap, &mut lent.list, &mut lent.bytes, &mut lent.words, &mut choices, &mut price);
+    let (mut choices, mut price, mut settled) = (0, 0, 0);
+    let number = fitter::repair(table, cap, &mut lent.list, &mut lent.bytes, &mut lent.words, &mut choices, &mut price, &mut settled);
     let written = if number == 0 { table[1] as usize } else { 0 };
-    clauses::Answer { number, choices, price, list: lent.list[..written].to_vec() }
+    clauses::Answer { number, choices, price, settled, list: lent.list[..written].to_vec() }
 }
 
 fn plain(table: &[u8], cap: u64) -> clauses::Answer {

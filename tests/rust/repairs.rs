@@ -1,10 +1,11 @@
-// Runs every line of a file of tables through Repair, and compares the number, the choices, the price and every entry of the three buffers, with
-// guard entries around them. Where a table is accepted, the plain search over explicit clauses must agree on the list before striking, and the
-// judge must accept the written one.
+// Runs every line of a file of tables through Repair, and compares the number, the choices, the price, the settled steps and every entry of the
+// three buffers, with guard entries around them. Where a table is accepted, the plain search over explicit clauses must agree on the list before
+// striking and on what is stored, and the judge must accept the written one.
 //
-// A line: table, refusal (0: none), variables, cap, answer, choices, list, list before striking, price. Words after the count of lines say what an
-// older file lacks. `unpriced`: its steps have no price and get the price 0, and its choices are those of a search that ends with its first find.
-// `unstruck`: it has the list before striking alone, which is struck here.
+// A line: table, refusal (0: none), variables, cap, answer, choices, list, list before striking, price, settled steps. Words after the count of
+// lines say what an older file lacks. `uncounted`: it has no settled steps; they are those of the plain search. `unpriced`: its steps have no price
+// and get the price 0, and its choices are those of a search that ends with its first find. `unstruck`: it has the list before striking alone, which
+// is struck here.
 mod clauses;
 mod fitter;
 mod striking;
@@ -18,6 +19,7 @@ struct Vector {
     cap: u64,
     choices: u64,
     price: u32,
+    settled: u32,
     list: Vec<u8>,
     before: Vec<u8>,
 }
@@ -37,16 +39,27 @@ fn struck(table: &[u8], number: u32, before: &[u8]) -> Vec<u8> {
     if number == 0 { striking::strike_packed(table, before) } else { vec![] }
 }
 
+// Whether a table is accepted, by the number of its answer.
+fn is_accepted(number: u32) -> bool {
+    [0, 14, 15].contains(&number)
+}
+
+// How many steps the closure of nothing settles, by the plain search. Whatever the cap is, it comes before the first choice.
+fn counted(table: &[u8], number: u32) -> u32 {
+    if is_accepted(number) { clauses::repair(table, 0).settled } else { 0 }
+}
+
 // Which words the program was called with.
 #[derive(Clone, Copy)]
 struct Lacks {
+    settled: bool,
     prices: bool,
     striking: bool,
 }
 
 impl Lacks {
     fn columns(self) -> usize {
-        9 - self.prices as usize - self.striking as usize
+        10 - self.settled as usize - self.prices as usize - self.striking as usize
     }
 }
 
@@ -61,6 +74,7 @@ fn vector(columns: &[String], lacks: Lacks) -> Vector {
         cap: columns[3].parse().unwrap_or(0),
         choices: columns[5].parse().unwrap_or(0),
         price: if lacks.prices { 0 } else { columns[8].parse().unwrap_or(0) },
+        settled: if lacks.settled { counted(&table, number) } else { columns[9].parse().unwrap_or(0) },
         list: if lacks.striking { struck(&table, number, &before) } else { vectors::bytes(&columns[6]) },
         before,
         table,
@@ -90,16 +104,16 @@ struct Room {
     words: usize,
 }
 
-// One call, with this much room: the number, the choices, the price, and all of the buffers and their guards.
+// One call, with this much room: the number, the choices, the price, the settled steps, and all of the buffers and their guards.
 fn agrees(v: &Vector, cap: u64, room: Room, wanted: u32) -> bool {
     let (mut list, mut bytes, mut words) = (list_before(room.list), bytes_before(room.bytes), words_before(room.words));
     let (mut list_after, mut bytes_after, mut words_after) = (list.clone(), bytes.clone(), words.clone());
-    let (mut choices, mut price) = (u64::MAX - 7, u32::MAX - 7);
-    let (mut choices_after, mut price_after) = (choices, price);
-    if [0, 14, 15].contains(&wanted) {
+    let (mut choices, mut price, mut settled) = (u64::MAX - 7, u32::MAX - 7, u32::MAX - 8);
+    let mut stored = (choices, price, settled);
+    if is_accepted(wanted) {
         bytes_after[GUARD..GUARD + v.variables].fill(0);
         words_after[GUARD..GUARD + v.variables].fill(0);
-        (choices_after, price_after) = (v.choices, v.price);
+        stored = (v.choices, v.price, v.settled);
     }
     if wanted == 0 {
         list_after[GUARD..GUARD + v.list.len()].copy_from_slice(&v.list);
@@ -112,9 +126,9 @@ fn agrees(v: &Vector, cap: u64, room: Room, wanted: u32) -> bool {
         &mut words[GUARD..GUARD + room.words],
         &mut choices,
         &mut price,
+        &mut settled,
     );
-    let stored = choices == choices_after && price == price_after;
-    got == wanted && stored && list == list_after && bytes == bytes_after && words == words_after
+    got == wanted && (choices, price, settled) == stored && list == list_after && bytes == bytes_after && words == words_after
 }
 
 // With as much room as needed, with more, and with one entry too few of each buffer.
@@ -147,12 +161,12 @@ fn striking_agrees(v: &Vector) -> bool {
 
 fn plain_agrees(v: &Vector) -> bool {
     let net = clauses::net(&v.table);
-    let wanted = clauses::Answer { number: v.number, choices: v.choices, price: v.price, list: v.before.clone() };
+    let wanted = clauses::Answer { number: v.number, choices: v.choices, price: v.price, settled: v.settled, list: v.before.clone() };
     net.variables == v.variables && clauses::search(&net, v.cap) == wanted
 }
 
 fn vector_agrees(v: &Vector) -> bool {
-    if [0, 14, 15].contains(&v.number) {
+    if is_accepted(v.number) {
         accepted_agrees(v) && judge_agrees(v) && striking_agrees(v) && plain_agrees(v)
     } else {
         refused_agrees(v)
@@ -181,6 +195,6 @@ fn line_agrees(columns: &[String], lacks: Lacks) -> bool {
 }
 
 fn main() {
-    let [prices, striking] = vectors::flags(3, ["unpriced", "unstruck"]);
-    vectors::run("repairs", |columns| line_agrees(columns, Lacks { prices, striking }))
+    let [settled, prices, striking] = vectors::flags(3, ["uncounted", "unpriced", "unstruck"]);
+    vectors::run("repairs", |columns| line_agrees(columns, Lacks { settled, prices, striking }))
 }

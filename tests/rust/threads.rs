@@ -28,7 +28,7 @@ struct Answers {
     judge: u32,
     label: (u32, Vec<u32>),
     holding: (u32, Vec<u8>, u32),
-    repair: (u32, Vec<u8>, Vec<u8>, Vec<u32>, u64, u32),
+    repair: (u32, Vec<u8>, Vec<u8>, Vec<u32>, u64, u32, u32),
     read: (u32, Vec<u8>, u64),
 }
 
@@ -42,11 +42,11 @@ fn holding(c: &Case) -> (u32, Vec<u8>, u32) {
     (fitter::holding(&c.table, &c.list, &mut out, &mut count), out, count)
 }
 
-fn repair(c: &Case) -> (u32, Vec<u8>, Vec<u8>, Vec<u32>, u64, u32) {
+fn repair(c: &Case) -> (u32, Vec<u8>, Vec<u8>, Vec<u32>, u64, u32, u32) {
     let (mut list, mut bytes, mut words) = (vec![7; c.list.len()], vec![7; c.variables], vec![7; c.variables]);
-    let (mut choices, mut price) = (7, 7);
-    let number = fitter::repair(&c.table, c.cap, &mut list, &mut bytes, &mut words, &mut choices, &mut price);
-    (number, list, bytes, words, choices, price)
+    let (mut choices, mut price, mut settled) = (7, 7, 7);
+    let number = fitter::repair(&c.table, c.cap, &mut list, &mut bytes, &mut words, &mut choices, &mut price, &mut settled);
+    (number, list, bytes, words, choices, price, settled)
 }
 
 fn read(c: &Case) -> (u32, Vec<u8>, u64) {

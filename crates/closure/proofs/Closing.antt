@@ -1,24 +1,31 @@
 -- From sweeps to the closure: what the rows reached so far have, and what a last sweep makes of it.
 use Prim.Native.Nat.{ℕ, suc, _+_, _*_, _-_, _^_, _≤_, _<_}
 use native.Mathlib.Omega.{arith}
-use mathlib.Core.Path.{_≡_, refl, sym, subst, _∙_}
+use mathlib.Core.Path.{_≡_, refl, sym, ap, subst, _∙_}
 use mathlib.Core.Bool.{Bool, true, false, cond, false≢true, true≢false}
+use mathlib.Core.Logic.{_↔_, ⊎-elim}
 use mathlib.Core.List.{List, [], _∷_, List·Memᴰ}
 use lib.Dec.{eqb}
 use lib.ListN.{length, getD}
 use Rattle.table.specs.Table.{Table, stepAt, nodeAt}
 use Rattle.table.specs.Facts.{Wellformed}
+use Rattle.table.proofs.Bools.{or-parts, or-left, or-right}
 use Rattle.circuit.specs.Logic.{Literal}
 use Rattle.circuit.specs.Variables.{Var, step}
+use Rattle.circuit.specs.Clauses.{clauses}
 use Rattle.rows.specs.declared.row.Report.{Report}
 use Rattle.rows.specs.Words.{rowAt, SmallRow, stepPlace}
+use Rattle.rows.specs.Steps.{stepSettled}
 use Rattle.ctl.specs.Rule.{operatorOf}
+use Rattle.closure.specs.declared.sweep.Closure.{Closure}
+use Rattle.closure.specs.Closure.{Fails}
 use Rattle.closure.specs.Knowledge.{Knowledge, knowledge, Small, Sized, levelTotal, levelBase, secondChild, sum, total}
 use Rattle.propagate.specs.Memory.{Memory, nodePlace}
 use Rattle.closure.specs.Rest.{Rest}
 use Rattle.closure.specs.Inside.{literal, Inside}
 use Rattle.closure.specs.Advance.{ForcedBy, Grows, Advance}
-use Rattle.closure.specs.Closes.{stepKnown, Between, Closes, Closed}
+use Rattle.closure.specs.Settled.{Settles}
+use Rattle.closure.specs.Closes.{stepKnown, rowsSettled, Between, Closes, Closed}
 use Rattle.closure.proofs.Ends.{target-true, same-ends}
 use Rattle.closure.proofs.RestForced.{rest-forced}
 
@@ -85,8 +92,8 @@ module _ (T : Table) where
     below = reached .sound P (b .below);
   }
 
-  closed-with : {M₀ M : Memory} (fails : Bool) → Reached M₀ M → ((P : List (Literal Var)) → Between T P M₀ → Closes T P fails M) → Closed T fails M₀ M
-  closed-with fails reached closes = record {
+  closed-with : {M₀ M : Memory} (c : Closure) → Reached M₀ M → ((P : List (Literal Var)) → Between T P M₀ → Closes T P c M) → Closed T c M₀ M
+  closed-with c reached closes = record {
     sized = reached .sized;
     same-words-length = reached .same-words-length;
     beyond = reached .beyond;
@@ -94,11 +101,14 @@ module _ (T : Table) where
   }
 
   -- a sweep that fails: something is forced both ways
-  pub closed-failing : {Q : Knowledge → Type 0} {M₀ M M′ : Memory} {r : Report} → Reached M₀ M → Advance T Q M M′ r → r .fails ≡ true → Closed T true M₀ M′
-  closed-failing reached more f = closed-with true (reached-more reached more) (λ P b.
+  pub closed-failing : {Q : Knowledge → Type 0} {M₀ M M′ : Memory} {r : Report} → Reached M₀ M → Advance T Q M M′ r → r .fails ≡ true
+      → Closed T (record { fails = true; settled = 0 }) M₀ M′
+  closed-failing reached more f = closed-with _ (reached-more reached more) (λ P b.
       let x = more .clash f P (reached .sound P (b .below)) in
+      let fails : Fails (clauses T) (λ l. List·Memᴰ l P) = (literal true (x .0), x .1, x .2) in
       record {
-        fails-exact = (λ _. (literal true (x .0), x .1, x .2), λ _. refl);
+        fails-exact = (λ _. fails, λ _. refl);
+        settled = record { failed = λ _. refl; counted = λ n. absurd (n fails) };
         between = between-still (reached-more reached more) P b;
         exact = λ e. absurd (true≢false e);
       })
@@ -111,21 +121,43 @@ module _ (T : Table) where
         let x = inside .steps (stepAt T j .from) (wf .from-state j h) sign (stepAt T j .to) e in
         subst (λ (k : ℕ). ForcedBy T P (literal sign (step k))) (same-ends T wf (x .0) j (x .1) h (x .2) (x .3)) (x .4)
 
-    rest-closes : (M : Memory) → Sized T M → Rest T (knowledge T M) → (P : List (Literal Var)) → Between T P M → Closes T P false M
-    rest-closes M z rest P b =
-        let all = rest-forced T wf (knowledge T M) (small-knowledge z) rest
-        (λ s h t e. let x = b .below .steps s h true t e in target-true T wf s t .1 (x .0, x .1, x .2, x .3)) P
-        (λ l i. let x = b .of-steps l i in (x .0, x .1, x .2, held l i (x .0) (x .2))) in
-        record {
-          fails-exact = (λ e. absurd (false≢true e), λ f. absurd (all .0 f));
-          between = b;
-          exact = λ e j sign h. (known-forced M P (b .below) j sign h, all .1 j sign h);
-        }
+    -- the steps that are settled in the rows, where the rows have exactly the closure's literals of steps
+    settles-exact : (M : Memory) (P : List (Literal Var))
+        → ((j : ℕ) (sign : Bool) → j < length (T .steps) → (stepKnown T (M .rows) sign j ≡ true) ↔ ForcedBy T P (literal sign (step j)))
+        → (j : ℕ) → j < length (T .steps) → (stepSettled (M .rows) (stepAt T j) ≡ true) ↔ Settles (clauses T) (λ l. List·Memᴰ l P) (step j)
+    settles-exact M P exact j h = (
+      λ e. ⊎-elim (λ k. (true, exact j true h .0 k)) (λ k. (false, exact j false h .0 k)) (or-parts (stepKnown T (M .rows) true j) (stepKnown T (M .rows) false j) e),
+      back,
+    )
       where
-        held : (l : Literal Var) → List·Memᴰ l P → (j : ℕ) → l .var ≡ step j → stepKnown T (M .rows) (l .sign) j ≡ true
-        held l i j e = b .above j (l .sign) (subst (λ (k : Literal Var). List·Memᴰ k P) (λ t. record { sign = l .sign; var = e t }) i)
+        back : Settles (clauses T) (λ l. List·Memᴰ l P) (step j) → stepSettled (M .rows) (stepAt T j) ≡ true
+        back (true, f) = or-left (stepKnown T (M .rows) true j) (stepKnown T (M .rows) false j) (exact j true h .1 f)
+        back (false, f) = or-right (stepKnown T (M .rows) true j) (stepKnown T (M .rows) false j) (exact j false h .1 f)
 
-    pub closed-resting : {M₀ M M′ : Memory} {r : Report} → Reached M₀ M → Advance T (Rest T) M M′ r → r .fails ≡ false → r .changed ≡ false
-        → Closed T false M₀ M′
-    closed-resting {M₀} {M} {M′} reached more f c = subst (Closed T false M₀) (sym (more .unchanged c))
-        (closed-with false reached (λ P b. rest-closes M (reached .sized) (more .quiet c f) P (between-still reached P b)))
+    module _ (count : ℕ) where
+      rest-closes : (M : Memory) → Sized T M → Rest T (knowledge T M) → count ≡ rowsSettled T (M .rows)
+          → (P : List (Literal Var)) → Between T P M → Closes T P (record { fails = false; settled = count }) M
+      rest-closes M z rest counted P b =
+          let all = rest-forced T wf (knowledge T M) (small-knowledge z) rest
+          (λ s h t e. let x = b .below .steps s h true t e in target-true T wf s t .1 (x .0, x .1, x .2, x .3)) P
+          (λ l i. let x = b .of-steps l i in (x .0, x .1, x .2, held l i (x .0) (x .2))) in
+          let exact : (j : ℕ) (sign : Bool) → j < length (T .steps) → (stepKnown T (M .rows) sign j ≡ true) ↔ ForcedBy T P (literal sign (step j)) =
+          λ j sign h. (known-forced M P (b .below) j sign h, all .1 j sign h) in
+          record {
+            fails-exact = (λ e. absurd (false≢true e), λ f. absurd (all .0 f));
+            settled = record { failed = λ f. absurd (all .0 f); counted = λ _. (λ j. stepSettled (M .rows) (stepAt T j), settles-exact M P exact, counted) };
+            between = b;
+            exact = λ _. exact;
+          }
+        where
+          held : (l : Literal Var) → List·Memᴰ l P → (j : ℕ) → l .var ≡ step j → stepKnown T (M .rows) (l .sign) j ≡ true
+          held l i j e = b .above j (l .sign) (subst (λ (k : Literal Var). List·Memᴰ k P) (λ t. record { sign = l .sign; var = e t }) i)
+
+      pub closed-resting : {M₀ M M′ : Memory} {r : Report} → Reached M₀ M → Advance T (Rest T) M M′ r → r .fails ≡ false → r .changed ≡ false
+          → count ≡ rowsSettled T (M′ .rows)
+          → Closed T (record { fails = false; settled = count }) M₀ M′
+      closed-resting {M₀} {M} {M′} reached more f c counted =
+          let same = more .unchanged c in
+          subst (Closed T (record { fails = false; settled = count }) M₀) (sym same)
+          (closed-with _ reached (λ P b. rest-closes M (reached .sized) (more .quiet c f)
+          (counted ∙ ap (λ (N : Memory). rowsSettled T (N .rows)) same) P (between-still reached P b)))

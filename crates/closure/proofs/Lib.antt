@@ -7,6 +7,7 @@ pub mod Clause
 pub mod Rounds
 pub mod Rest
 pub mod Computed
+pub mod SettledBelow
 pub mod Grow
 pub mod Places
 pub mod Models

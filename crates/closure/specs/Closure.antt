@@ -5,6 +5,7 @@ use mathlib.Core.Bool.{Bool, true, false, not, cond, _&&_, Bool·beq}
 use mathlib.Core.List.{List, [], _∷_, List·Memᴰ}
 use lib.ListN.{getD, set, replicate}
 use lib.Dec.{eqb}
+use Rattle.sets.specs.Member.{countOf}
 use Rattle.table.specs.Accept.{all}
 use Rattle.ctl.specs.Labels.{nonempty}
 use Rattle.circuit.specs.Logic.{Literal, opposite}
@@ -85,3 +86,8 @@ marksOf size (l ∷ P) = holding (marksOf size P) l
 -- the closure of P, of clauses over so many variables
 abbrev pub closure : ℕ → List (List (Literal ℕ)) → List (Literal ℕ) → Progress
 closure size F P = rounds (suc size) F (marksOf size P)
+
+-- 02, A5: of the variables below e, those of the steps, how many it settles, and 0 where it fails
+abbrev pub settledBelow : ℕ → Progress → ℕ
+settledBelow e clash = 0
+settledBelow e (marked m new) = countOf e (λ j. isKnown (markAt m j))

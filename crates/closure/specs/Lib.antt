@@ -6,6 +6,7 @@ pub mod Dual
 pub mod Rest
 pub mod Inside
 pub mod Advance
+pub mod Settled
 pub mod Closes
 pub mod Sweep
 pub mod Setting

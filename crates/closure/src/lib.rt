@@ -4,6 +4,7 @@ mod kept;
 mod net;
 mod node;
 mod nodes;
+mod settled;
 mod sweep;
 
 pub use bases::Bases;

@@ -4,6 +4,7 @@ use crate::kept::start_step;
 use crate::net::Net;
 use crate::nodes::Visited;
 use crate::nodes::nodes_step;
+use crate::settled::settled_steps;
 use rows::both;
 ghost use mathlib.Core.Path.{_≡_};
 ghost use Rattle.table.specs.Table.{tableOf};
@@ -13,9 +14,10 @@ ghost use Rattle.propagate.specs.Memory.{memory, stepped};
 ghost use Rattle.closure.specs.Setting.{Setting};
 ghost use Rattle.closure.specs.Closes.{Closed};
 
-// What working out a closure gives: whether it fails. The rows are in the memory.
+// What working out a closure gives: whether it fails, and how many steps it settles, 0 where it fails. The rows are in the memory.
 pub struct Closure {
     pub fails: bool,
+    pub settled: u32,
 }
 
 // K, the initial states and the nodes that are not known to be at rest.
@@ -55,17 +57,23 @@ pub fn close(
 ) -> Closure
     requires { ⌜ Setting (now table) net (now targets) (now bases) ⌝ }
     requires { ⌜ Sized (tableOf (now table)) (memory (now rows) (now words)) ⌝ }
-    ensures { λ r. ⌜ Closed (tableOf (now (table .entry))) (r .fails) (memory (now (rows .entry)) (now (words .entry))) (memory (now (rows .exit)) (now (words .exit))) ⌝ }
+    ensures { λ r. ⌜ Closed (tableOf (now (table .entry))) r (memory (now (rows .entry)) (now (words .entry))) (memory (now (rows .exit)) (now (words .exit))) ⌝ }
 {
     let mut down = false;
     let mut resting = 0u32;
     loop {
         let v = sweep_once(table, net, targets, bases, rows, words, down, resting);
         if v.report.fails {
-            return Closure { fails: true };
+            return Closure {
+                fails: true,
+                settled: 0,
+            };
         }
         if !v.report.changed {
-            return Closure { fails: false };
+            return Closure {
+                fails: false,
+                settled: settled_steps(table, rows),
+            };
         }
         resting = v.resting;
         down = !down;

@@ -22,15 +22,17 @@ extern "C" {
  * that ranks first where several cost the same, with every step struck besides that leaves a state not reached from a kept initial state by kept
  * steps; fitter_judge accepts it. `price` gets the sum of the prices of its struck steps, without those struck besides: at most 32640. 14 where
  * there is no repair. 15 where the search has made `cap` choices and would make another, whether or not it has come upon a repair by then. These
- * three store the choices made and a price, which is 0 with 14 and 15, leave the first V entries of `bytes` and `words` 0, and but for the list that
- * is found every other entry as it was. Else 2 to 8 or 10, and nothing is stored.
+ * three store the choices made, a price, which is 0 with 14 and 15, and the settled steps, leave the first V entries of `bytes` and `words` 0, and
+ * but for the list that is found every other entry as it was. Else 2 to 8 or 10, and nothing is stored.
+ * `settled` gets the number of steps that were known to be kept, or known to be struck, before the first choice: at most 128, the same at any cap
+ * and any prices, and 0 where it shows before any choice that there is no repair.
  * `list` needs a byte for each step, `bytes` and `words` V entries each. With n states and e steps, V is e + n and, for each node, n (kinds 0 to 5),
  * e + n (6 and 7), n + n (e + 3 n) (8 to 11) or n + n (e + 2 n) (12 to 15): at most 223392. */
 uint32_t fitter_repair(const uint8_t *table, size_t table_len, uint64_t cap,
                        uint8_t *list, size_t list_len,
                        uint8_t *bytes, size_t bytes_len,
                        uint32_t *words, size_t words_len,
-                       uint64_t *choices, uint32_t *price);
+                       uint64_t *choices, uint32_t *price, uint32_t *settled);
 
 /* 0 where the list is a repair of the table, and each of its kept steps leaves a state that is reached from a kept initial state by kept
  * steps; else 2 to 9, 11, 12, 16 or 13, the first that holds in this order. */

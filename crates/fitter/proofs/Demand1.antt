@@ -43,7 +43,7 @@ use Rattle.repair.specs.Outcome.{repairVerdict, writtenAfter, repairList}
 use Rattle.repair.proofs.Answered.{refused-back, found-back, none-back, spent-back, choices-back}
 use Rattle.repair.proofs.Cleared.{cleared-written}
 use Rattle.repair.proofs.Order.{accepted-parts, left}
-use Rattle.fitter.specs.Exports.{holdingCount, readLength, stored, repairChoices, repairPrice}
+use Rattle.fitter.specs.Exports.{holdingCount, readLength, stored, repairChoices, repairPrice, repairSettled}
 use Rattle.fitter.specs.Demand1.{AfterRepair, AfterLabel, AfterHolding, AfterRead, Demand1}
 
 -- ---- Repair
@@ -70,18 +70,19 @@ module _ (table : List ℕ) (cap : ℕ) (list bytes words : List ℕ) where
           sym (l .1 .1 .1),
           λ before. ap (λ (a : Answer). repairChoices a before) e,
           λ before. ap (λ (a : Answer). repairPrice a before) e,
+          λ before. ap (λ (a : Answer). repairSettled a before) e,
         );
-    found-list = λ p c e.
-        let b = found-back verdict outcome p c e in
+    found-list = λ p c k e.
+        let b = found-back verdict outcome p c k e in
         let m = b .1 .0 in
         let fits = accepted-parts table list bytes words (b .0) in (
           m,
           b .1 .1,
-          subst (λ (after : List ℕ). Written (strike (tableOf table) (listOf (tableOf table) m)) list after) (sym (list-after (b .0) (found m p c) (b .1 .1)))
+          subst (λ (after : List ℕ). Written (strike (tableOf table) (listOf (tableOf table) m)) list after) (sym (list-after (b .0) (found m p c k) (b .1 .1)))
               (front-written (strike (tableOf table) (listOf (tableOf table) m)) list (length (tableOf table .steps)) (strike-length (tableOf table) (listOf (tableOf table) m)) (fits .1)),
         );
-    none-list = λ c e. let b = none-back verdict outcome c e in list-after (b .0) (none c) (b .1);
-    spent-list = λ c e. let b = spent-back verdict outcome c e in list-after (b .0) (spent c) (b .1);
+    none-list = λ c k e. let b = none-back verdict outcome c k e in list-after (b .0) (none c k) (b .1);
+    spent-list = λ c k e. let b = spent-back verdict outcome c k e in list-after (b .0) (spent c k) (b .1);
     work = λ c e.
         let ok = choices-back verdict outcome c e in
         let l = left table cap list bytes words Accepted ok in
@@ -92,6 +93,7 @@ module _ (table : List ℕ) (cap : ℕ) (list bytes words : List ℕ) where
           λ before. ap (λ (k : Option ℕ). stored k before) e,
         );
     priced = λ p e before. ap (λ (k : Option ℕ). stored k before) e;
+    settled = λ n e before. ap (λ (k : Option ℕ). stored k before) e;
   }
 
 -- ---- Label

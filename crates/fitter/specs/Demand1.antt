@@ -31,9 +31,9 @@ use Rattle.reader.specs.declared.answer.Read.the-variants.{Length, Refused as R
 use Rattle.sheet.specs.Form.{Sheet, InRange, render}
 use Rattle.reader.specs.Read.{pack, readVerdict, readAnswer, readBuffer}
 use Rattle.repair.specs.declared.answer.Answer.the-variants.{Found, None, Spent, Refused as RepairRefused}
-use Rattle.repair.specs.Answer.{answerChoices, answerPrice}
+use Rattle.repair.specs.Answer.{answerChoices, answerPrice, answerSettled}
 use Rattle.repair.specs.Outcome.{repairVerdict, repairAnswer, repairList, repairBytes, repairWords}
-use Rattle.fitter.specs.Exports.{holdingCount, readLength, repairChoices, repairPrice}
+use Rattle.fitter.specs.Exports.{holdingCount, readLength, repairChoices, repairPrice, repairSettled}
 
 -- ---- Repair
 
@@ -47,12 +47,13 @@ pub record AfterRepair (table : List ℕ) (cap : ℕ) (list bytes words : List �
       × (repairWords table cap list bytes words ≡ words)
       × ((before : ℕ) → repairChoices (repairAnswer table cap list bytes words) before ≡ before)
       × ((before : ℕ) → repairPrice (repairAnswer table cap list bytes words) before ≡ before)
+      × ((before : ℕ) → repairSettled (repairAnswer table cap list bytes words) before ≡ before)
   -- "Found writes the first e list bytes. The rest stays." What it writes is, by 02's A3, what the search finds, struck.
-  pub found-list : (p c : ℕ) → repairAnswer table cap list bytes words ≡ Found p c
-      → (m : Marks) × (searchUnder (tableOf table) cap ≡ found m p c) × Written (strike (tableOf table) (listOf (tableOf table) m)) list (repairList table cap list bytes words)
+  pub found-list : (p c k : ℕ) → repairAnswer table cap list bytes words ≡ Found p c k
+      → (m : Marks) × (searchUnder (tableOf table) cap ≡ found m p c k) × Written (strike (tableOf table) (listOf (tableOf table) m)) list (repairList table cap list bytes words)
   -- "None and spent (14, 15) touch only work buffers."
-  pub none-list : (c : ℕ) → repairAnswer table cap list bytes words ≡ None c → repairList table cap list bytes words ≡ list
-  pub spent-list : (c : ℕ) → repairAnswer table cap list bytes words ≡ Spent c → repairList table cap list bytes words ≡ list
+  pub none-list : (c k : ℕ) → repairAnswer table cap list bytes words ≡ None c k → repairList table cap list bytes words ≡ list
+  pub spent-list : (c k : ℕ) → repairAnswer table cap list bytes words ≡ Spent c k → repairList table cap list bytes words ≡ list
   -- "Found, none and spent carry the choices and leave the first V entries of both work buffers 0. .. The rest stays."
   pub work : (c : ℕ) → answerChoices (repairAnswer table cap list bytes words) ≡ some c
       → Written (replicate (variableFormula (tableOf table)) 0) bytes (repairBytes table cap list bytes words)
@@ -61,6 +62,9 @@ pub record AfterRepair (table : List ℕ) (cap : ℕ) (list bytes words : List �
   -- 02, A4: "this price is reported", 0 for none and spent
   pub priced : (p : ℕ) → answerPrice (repairAnswer table cap list bytes words) ≡ some p
       → (before : ℕ) → repairPrice (repairAnswer table cap list bytes words) before ≡ p
+  -- 02, A5: "Found, none and spent carry this number"; demand 3 says which it is
+  pub settled : (k : ℕ) → answerSettled (repairAnswer table cap list bytes words) ≡ some k
+      → (before : ℕ) → repairSettled (repairAnswer table cap list bytes words) before ≡ k
 
 -- ---- Label
 

@@ -6,7 +6,7 @@ use Rattle.label.specs.declared.holding.Holding.the-variants.{Count, Refused}
 use Rattle.reader.specs.declared.answer.Read.{Read}
 use Rattle.reader.specs.declared.answer.Read.the-variants.{Length, Refused as ReadRefused}
 use Rattle.repair.specs.declared.answer.Answer.{Answer}
-use Rattle.repair.specs.Answer.{answerChoices, answerPrice}
+use Rattle.repair.specs.Answer.{answerChoices, answerPrice, answerSettled}
 
 -- Holding's count: that of the states where they are given, else as it was
 abbrev pub holdingCount : Holding → ℕ → ℕ
@@ -18,7 +18,7 @@ abbrev pub readLength : Read → ℕ → ℕ
 readLength (Length k) before = k
 readLength (ReadRefused r) before = before
 
--- Repair's choices and price: those that the answer carries, and after a refusal as they were
+-- Repair's choices, price and settled steps: those that the answer carries, and after a refusal as they were
 abbrev pub stored : Option ℕ → ℕ → ℕ
 stored (some c) before = c
 stored none before = before
@@ -28,3 +28,6 @@ repairChoices answer before = stored (answerChoices answer) before
 
 abbrev pub repairPrice : Answer → ℕ → ℕ
 repairPrice answer before = stored (answerPrice answer) before
+
+abbrev pub repairSettled : Answer → ℕ → ℕ
+repairSettled answer before = stored (answerSettled answer) before

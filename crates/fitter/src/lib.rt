@@ -10,33 +10,44 @@ ghost use Rattle.label.specs.Calls.{labelVerdict, labelBuffer, holdingAnswer, h
 ghost use Rattle.reader.specs.Read.{readAnswer, readBuffer, readNumber};
 ghost use Rattle.repair.specs.Answer.{answerNumber};
 ghost use Rattle.repair.specs.Outcome.{repairAnswer, repairList, repairBytes, repairWords};
-ghost use Rattle.fitter.specs.Exports.{holdingCount, readLength, repairChoices, repairPrice};
+ghost use Rattle.fitter.specs.Exports.{holdingCount, readLength, repairChoices, repairPrice, repairSettled};
 
-fn store(choices: &mut u64, price: &mut u32, c: u64, p: u32, number: u32) -> u32
+fn store(
+    choices: &mut u64,
+    price: &mut u32,
+    settled: &mut u32,
+    c: u64,
+    p: u32,
+    k: u32,
+    number: u32,
+) -> u32
     ensures { λ r. ⌜ r ≡ number ⌝ }
     ensures { λ _. ⌜ now (choices .exit) ≡ c ⌝ }
     ensures { λ _. ⌜ now (price .exit) ≡ p ⌝ }
+    ensures { λ _. ⌜ now (settled .exit) ≡ k ⌝ }
 {
     *choices = c;
     *price = p;
+    *settled = k;
     number
 }
 
-// The number of Repair's answer, and the choices and the price that it carries stored, 0 for none and spent.
-fn store_answer(answer: Answer, choices: &mut u64, price: &mut u32) -> u32
+// The number of Repair's answer, and what it carries stored: the choices, the price, 0 for none and spent, and the settled steps.
+fn store_answer(answer: Answer, choices: &mut u64, price: &mut u32, settled: &mut u32) -> u32
     ensures { λ r. ⌜ r ≡ answerNumber answer ⌝ }
     ensures { λ _. ⌜ now (choices .exit) ≡ repairChoices answer (now (choices .entry)) ⌝ }
     ensures { λ _. ⌜ now (price .exit) ≡ repairPrice answer (now (price .entry)) ⌝ }
+    ensures { λ _. ⌜ now (settled .exit) ≡ repairSettled answer (now (settled .entry)) ⌝ }
 {
     match answer {
-        Answer::Found(p, c) => store(choices, price, c, p, 0),
-        Answer::None(c) => store(choices, price, c, 0, 14),
-        Answer::Spent(c) => store(choices, price, c, 0, 15),
+        Answer::Found(p, c, k) => store(choices, price, settled, c, p, k, 0),
+        Answer::None(c, k) => store(choices, price, settled, c, 0, k, 14),
+        Answer::Spent(c, k) => store(choices, price, settled, c, 0, k, 15),
         Answer::Refused(refusal) => table::refusal_number(refusal),
     }
 }
 
-// 0 found, 14 none or 15 spent, and the choices and the price stored; or the refusal's number and nothing stored or written.
+// 0 found, 14 none or 15 spent, and the choices, the price and the settled steps stored; or the refusal's number and nothing stored or written.
 #[no_mangle]
 pub extern "C" fn fitter_repair(
     table: &[u8],
@@ -46,6 +57,7 @@ pub extern "C" fn fitter_repair(
     words: &mut [u32],
     choices: &mut u64,
     price: &mut u32,
+    settled: &mut u32,
 ) -> u32
     ensures { λ r. ⌜ r ≡ answerNumber (repairAnswer (now (table .entry)) cap (now (list .entry)) (now (bytes .entry)) (now (words .entry))) ⌝ }
     ensures { λ _. ⌜ now (list .exit) ≡ repairList (now (table .entry)) cap (now (list .entry)) (now (bytes .entry)) (now (words .entry)) ⌝ }
@@ -53,11 +65,13 @@ pub extern "C" fn fitter_repair(
     ensures { λ _. ⌜ now (words .exit) ≡ repairWords (now (table .entry)) cap (now (list .entry)) (now (bytes .entry)) (now (words .entry)) ⌝ }
     ensures { λ _. ⌜ now (choices .exit) ≡ repairChoices (repairAnswer (now (table .entry)) cap (now (list .entry)) (now (bytes .entry)) (now (words .entry))) (now (choices .entry)) ⌝ }
     ensures { λ _. ⌜ now (price .exit) ≡ repairPrice (repairAnswer (now (table .entry)) cap (now (list .entry)) (now (bytes .entry)) (now (words .entry))) (now (price .entry)) ⌝ }
+    ensures { λ _. ⌜ now (settled .exit) ≡ repairSettled (repairAnswer (now (table .entry)) cap (now (list .entry)) (now (bytes .entry)) (now (words .entry))) (now (settled .entry)) ⌝ }
 {
     store_answer(
         repair::repair(table, cap, list, bytes, words),
         choices,
         price,
+        settled,
     )
 }
 

@@ -16,22 +16,22 @@ use Rattle.repair.proofs.Listed.{list-size}
 
 module _ (T : Table) (list after : List ℕ) where
   -- found: the first e bytes are struck
-  pub after-found : (o : Outcome) (p c e : ℕ) → Found p c ≡ outcomeOf o → after ≡ listAfter T o list → e ≡ length (T .steps)
+  pub after-found : (o : Outcome) (p c k e : ℕ) → Found p c k ≡ outcomeOf o → after ≡ listAfter T o list → e ≡ length (T .steps)
       → (front : List ℕ) → front ≡ strike T (take e after) → front ++ drop e after ≡ writtenAfter T o list
-  after-found (found m q k) p c e same is here front struck =
+  after-found (found m q d l) p c k e same is here front struck =
       let rest = drop (length (T .steps)) list in
       let size = list-size T m ∙ sym here in
       (λ j. (struck ∙ ap (strike T) (ap (take e) is ∙ take-at (listOf T m) rest e size)) j ++ (ap (drop e) is ∙ drop-at (listOf T m) rest e size) j)
-  after-found (none k) p c e same is here front struck = absurd (let z : _≡_ {A = ℕ} 0 1 = cc in omega arith)
-  after-found (spent k) p c e same is here front struck = absurd (let z : _≡_ {A = ℕ} 0 1 = cc in omega arith)
+  after-found (none d l) p c k e same is here front struck = absurd (let z : _≡_ {A = ℕ} 0 1 = cc in omega arith)
+  after-found (spent d l) p c k e same is here front struck = absurd (let z : _≡_ {A = ℕ} 0 1 = cc in omega arith)
 
   -- none and spent: nothing is written
-  pub after-none : (o : Outcome) (c : ℕ) → None c ≡ outcomeOf o → after ≡ listAfter T o list → after ≡ writtenAfter T o list
-  after-none (found m q k) c same is = absurd (let z : _≡_ {A = ℕ} 0 1 = cc in omega arith)
-  after-none (none k) c same is = is
-  after-none (spent k) c same is = absurd (let z : _≡_ {A = ℕ} 0 1 = cc in omega arith)
+  pub after-none : (o : Outcome) (c k : ℕ) → None c k ≡ outcomeOf o → after ≡ listAfter T o list → after ≡ writtenAfter T o list
+  after-none (found m q d l) c k same is = absurd (let z : _≡_ {A = ℕ} 0 1 = cc in omega arith)
+  after-none (none d l) c k same is = is
+  after-none (spent d l) c k same is = absurd (let z : _≡_ {A = ℕ} 0 1 = cc in omega arith)
 
-  pub after-spent : (o : Outcome) (c : ℕ) → Spent c ≡ outcomeOf o → after ≡ listAfter T o list → after ≡ writtenAfter T o list
-  after-spent (found m q k) c same is = absurd (let z : _≡_ {A = ℕ} 0 1 = cc in omega arith)
-  after-spent (none k) c same is = absurd (let z : _≡_ {A = ℕ} 0 1 = cc in omega arith)
-  after-spent (spent k) c same is = is
+  pub after-spent : (o : Outcome) (c k : ℕ) → Spent c k ≡ outcomeOf o → after ≡ listAfter T o list → after ≡ writtenAfter T o list
+  after-spent (found m q d l) c k same is = absurd (let z : _≡_ {A = ℕ} 0 1 = cc in omega arith)
+  after-spent (none d l) c k same is = absurd (let z : _≡_ {A = ℕ} 0 1 = cc in omega arith)
+  after-spent (spent d l) c k same is = is

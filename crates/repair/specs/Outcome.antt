@@ -33,19 +33,19 @@ repairVerdict table list bytes words =
 
 -- what the search's code answers, carried over
 abbrev pub carried : Code.Outcome → Answer
-carried (code.Found p c) = Found p c
-carried (code.None c) = None c
-carried (code.Spent c) = Spent c
+carried (code.Found p c k) = Found p c k
+carried (code.None c k) = None c k
+carried (code.Spent c k) = Spent c k
 
--- what the search answers, with its price and its choices
+-- what the search answers, with its price, its choices and the settled steps
 abbrev pub answerOf : Outcome → Answer
 answerOf outcome = carried (outcomeOf outcome)
 
 -- The lent list afterwards: found writes a byte for each step, and the rest stays. 02, A3: what is written is what the search finds, struck.
 abbrev pub writtenAfter : Table → Outcome → List ℕ → List ℕ
-writtenAfter T (found m p c) list = strike T (listOf T m) ++ drop (length (T .steps)) list
-writtenAfter T (none c) list = list
-writtenAfter T (spent c) list = list
+writtenAfter T (found m p c k) list = strike T (listOf T m) ++ drop (length (T .steps)) list
+writtenAfter T (none c k) list = list
+writtenAfter T (spent c k) list = list
 
 -- refused where a test refuses, else that
 abbrev pub answerAt : Verdict → Outcome → Answer

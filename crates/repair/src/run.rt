@@ -28,13 +28,13 @@ pub fn run(table: &[u8], cap: u64, list: &mut [u8], words: &mut [u32]) -> Answer
     let bases = b.at;
     let levels = b.total;
     match search::search_table(table, net, &targets, &bases, levels, cap, list, words) {
-        Outcome::Found(price, c) => {
+        Outcome::Found(price, c, k) => {
             let counts = table::counts_of(table);
             let e = counts.steps;
             strike_unreached(table, net, &mut list[..e]);
-            Answer::Found(price, c)
+            Answer::Found(price, c, k)
         }
-        Outcome::None(c) => Answer::None(c),
-        Outcome::Spent(c) => Answer::Spent(c),
+        Outcome::None(c, k) => Answer::None(c, k),
+        Outcome::Spent(c, k) => Answer::Spent(c, k),
     }
 }

@@ -50,10 +50,10 @@ bits-strike T list h i = go (decLt i (length (T .steps)))
 
 -- what is written where the search found, and what Repair leaves
 outcome-bits : (T : Table) (o : Outcome) (list : List ℕ) → Bits list → Bits (writtenAfter T o list)
-outcome-bits T (found m p c) list h =
+outcome-bits T (found m p c k) list h =
     bits-append (strike T (listOf T m)) (drop (length (T .steps)) list) (bits-strike T (listOf T m) (bits-map m (below (length (T .steps))))) (bits-drop (length (T .steps)) list h)
-outcome-bits T (none c) list h = h
-outcome-bits T (spent c) list h = h
+outcome-bits T (none c k) list h = h
+outcome-bits T (spent c k) list h = h
 
 pub list-bits : (v : Verdict) (T : Table) (o : Outcome) (list : List ℕ) → Bits list → Bits (onAccepted v (writtenAfter T o list) list)
 list-bits Accepted T o list h = outcome-bits T o list h

@@ -96,10 +96,10 @@ values-length : (c p : ℕ) → c ≤ cap → p ≤ 32640 → length (line (c �
 values-length c p few cheap = omega (arith, two-values c p, seven-digits c few, five-digits p (omega arith))
 
 outcome-length : (table : List ℕ) (o : Outcome) (list : List ℕ) → choices o ≤ cap → price o ≤ 32640 → length (keptLines (stepsOf table) list) ≤ 1024 → length (answerText table (answerOf o) list) ≤ 1078
-outcome-length table (found m p c) list few cheap short =
+outcome-length table (found m p c k) list few cheap short =
     omega (arith, length-append (line (c ∷ p ∷ [])) (ascii "from to kept\n" ++ keptLines (stepsOf table) list), values-length c p few cheap)
-outcome-length table (none c) list few cheap short = omega (arith, values-length c 0 few cheap)
-outcome-length table (spent c) list few cheap short = omega (arith, values-length c 0 few cheap)
+outcome-length table (none c k) list few cheap short = omega (arith, values-length c 0 few cheap)
+outcome-length table (spent c k) list few cheap short = omega (arith, values-length c 0 few cheap)
 
 answer-length : (table : List ℕ) (v : Verdict) (o : Outcome) (list : List ℕ) → choices o ≤ cap → price o ≤ 32640 → length (keptLines (stepsOf table) list) ≤ 1024 → length (answerText table (answerAt v o) list) ≤ 1078
 answer-length table Accepted o list few cheap short = outcome-length table o list few cheap short

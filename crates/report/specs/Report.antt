@@ -33,11 +33,15 @@ keptLines [] list = []
 keptLines (x ∷ steps) [] = []
 keptLines (x ∷ steps) (kept ∷ list) = keptLine x kept ++ keptLines steps list
 
--- what is printed of Repair's answer and of the list that it leaves: "price 0 for none and spent"
+-- where a repair is found, the list as well
+abbrev pub foundText : List ℕ → ℕ → ℕ → List ℕ → List ℕ
+foundText table price choices list = counted (ascii "found ") choices price ++ (ascii "from to kept\n" ++ keptLines (stepsOf table) list)
+
+-- What is printed of Repair's answer and of the list that it leaves: "price 0 for none and spent". The settled steps are not printed.
 abbrev pub answerText : List ℕ → Answer → List ℕ → List ℕ
-answerText table (Found price choices) list = counted (ascii "found ") choices price ++ (ascii "from to kept\n" ++ keptLines (stepsOf table) list)
-answerText table (None choices) list = counted (ascii "none ") choices 0
-answerText table (Spent choices) list = counted (ascii "spent ") choices 0
+answerText table (Found price choices settled) list = foundText table price choices list
+answerText table (None choices settled) list = counted (ascii "none ") choices 0
+answerText table (Spent choices settled) list = counted (ascii "spent ") choices 0
 answerText table (Refused r) list = refused r
 
 -- 128 list bytes and 10,000 work entries, all zero at first, and the cap

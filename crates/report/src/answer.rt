@@ -13,8 +13,7 @@ ghost use Prim.Native.Nat.{_≤_};
 ghost use lib.ListN.{length};
 ghost use Rattle.table.specs.Table.{countsOf};
 ghost use Rattle.render.specs.Render.{Room, Stored};
-ghost use Rattle.repair.specs.declared.answer.Answer.the-variants.{Found};
-ghost use Rattle.report.specs.Report.{refused, answerText};
+ghost use Rattle.report.specs.Report.{refused, foundText, answerText};
 
 pub fn write_refused(out: &mut [u8], refusal: Refusal) -> usize
     requires { ⌜ Room (now out) 0 (refused refusal) ⌝ }
@@ -27,8 +26,8 @@ pub fn write_refused(out: &mut [u8], refusal: Refusal) -> usize
 
 fn write_found(table: &[u8], price: u32, choices: u64, list: &[u8], out: &mut [u8]) -> usize
     requires { ⌜ countsOf (now table) .steps ≤ length (now list) ⌝ }
-    requires { ⌜ Room (now out) 0 (answerText (now table) (Found price choices) (now list)) ⌝ }
-    ensures { λ r. ⌜ Stored (now (out .entry)) 0 (answerText (now (table .entry)) (Found price choices) (now (list .entry))) (now (out .exit)) r ⌝ }
+    requires { ⌜ Room (now out) 0 (foundText (now table) price choices (now list)) ⌝ }
+    ensures { λ r. ⌜ Stored (now (out .entry)) 0 (foundText (now (table .entry)) price choices (now (list .entry))) (now (out .exit)) r ⌝ }
 {
     let c = counts_of(table);
     let third = write_answer(out, b"found ", choices as usize, price as usize);
@@ -42,9 +41,9 @@ pub fn write_result(table: &[u8], answer: Answer, list: &[u8], out: &mut [u8]) -
     ensures { λ r. ⌜ Stored (now (out .entry)) 0 (answerText (now (table .entry)) answer (now (list .entry))) (now (out .exit)) r ⌝ }
 {
     match answer {
-        Answer::Found(p, c) => write_found(table, p, c, list, out),
-        Answer::None(c) => write_answer(out, b"none ", c as usize, 0),
-        Answer::Spent(c) => write_answer(out, b"spent ", c as usize, 0),
+        Answer::Found(p, c, _) => write_found(table, p, c, list, out),
+        Answer::None(c, _) => write_answer(out, b"none ", c as usize, 0),
+        Answer::Spent(c, _) => write_answer(out, b"spent ", c as usize, 0),
         Answer::Refused(refusal) => write_refused(out, refusal),
     }
 }

@@ -3,6 +3,7 @@ mod joined;
 mod next;
 mod row;
 mod rules;
+mod steps;
 
 pub use joined::Joined;
 pub use joined::join;
@@ -26,3 +27,6 @@ pub use rules::and_output;
 pub use rules::constant_row;
 pub use rules::kept_row;
 pub use rules::kept_steps;
+pub use steps::is_known;
+pub use steps::is_settled;
+pub use steps::word_of;

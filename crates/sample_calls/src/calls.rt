@@ -1,10 +1,11 @@
 // The calls, on buffers that are long enough for every sample.
 
-// What Repair gives: its number, and the choices and the price that it stored.
+// What Repair gives: its number, and the choices, the price and the settled steps that it stored.
 pub struct Repaired {
     pub number: u32,
     pub choices: u64,
     pub price: u32,
+    pub settled: u32,
 }
 
 // 01's sheet, read.
@@ -24,6 +25,7 @@ pub fn repair_in(table: &[u8], cap: u64, bytes: &mut [u8]) -> Repaired {
     let mut words = [0u32; 100];
     let mut choices = 0;
     let mut price = 0;
+    let mut settled = 0;
     let number = fitter::fitter_repair(
         table,
         cap,
@@ -32,11 +34,13 @@ pub fn repair_in(table: &[u8], cap: u64, bytes: &mut [u8]) -> Repaired {
         &mut words,
         &mut choices,
         &mut price,
+        &mut settled,
     );
     Repaired {
         number,
         choices,
         price,
+        settled,
     }
 }
 

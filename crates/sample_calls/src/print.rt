@@ -11,8 +11,8 @@ pub fn print_sample(number: u32, sample: &[u8]) {
     io::write_all(1, b"\n");
 }
 
-// The same, with the choices and the price that the answer carries.
-pub fn print_repaired(number: u32, sample: &[u8], choices: u64, price: u32) {
+// The same, with the choices, the price and the settled steps that the answer carries.
+pub fn print_repaired(number: u32, sample: &[u8], choices: u64, price: u32, settled: u32) {
     io::print_decimal(1, number as u64);
     io::write_all(1, b" ");
     io::write_all(1, sample);
@@ -20,5 +20,7 @@ pub fn print_repaired(number: u32, sample: &[u8], choices: u64, price: u32) {
     io::print_decimal(1, choices);
     io::write_all(1, b", price ");
     io::print_decimal(1, price as u64);
+    io::write_all(1, b", settled ");
+    io::print_decimal(1, settled as u64);
     io::write_all(1, b"\n");
 }

@@ -5,7 +5,7 @@ use crate::print::print_repaired;
 
 fn run_repair(table: &[u8], cap: u64, sample: &[u8]) {
     let r = repair(table, cap);
-    print_repaired(r.number, sample, r.choices, r.price);
+    print_repaired(r.number, sample, r.choices, r.price, r.settled);
 }
 
 pub fn run_repairs() {

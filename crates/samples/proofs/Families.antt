@@ -1,7 +1,7 @@
 -- Every sample of the kinds 10 to 15 has its answer, by computation from the definitions.
 use mathlib.Core.Path.{_≡_, refl}
 use mathlib.Core.Bool.{true}
-use Rattle.sets.specs.Member.{member}
+use Rattle.sets.specs.Member.{member, countOf}
 use Rattle.table.specs.Table.{records}
 use Rattle.table.specs.Accept.{all, any, distinct, nodesFit, tableVerdict, listVerdict}
 use Rattle.ctl.specs.Rule.{bottomUp}
@@ -22,5 +22,5 @@ use Rattle.samples.specs.Samples.{answers, passes}
 use Rattle.samples.specs.Families.{familyCases}
 
 pub families-pass : all passes familyCases ≡ true
-unfolding member records all any distinct nodesFit tableVerdict listVerdict bottomUp tabulate iterate nextIn level levels keptSteps endsFrom labelOf label sumBelow reachedSet strike judgeVerdict gateClauses concat outOf nodeVariables variables nodeGates gates select demands clauses open-in take-clause round rounds marksOf walk search sameCode place numberedClauses tableSearch answers passes
+unfolding member countOf records all any distinct nodesFit tableVerdict listVerdict bottomUp tabulate iterate nextIn level levels keptSteps endsFrom labelOf label sumBelow reachedSet strike judgeVerdict gateClauses concat outOf nodeVariables variables nodeGates gates select demands clauses open-in take-clause round rounds marksOf walk search sameCode place numberedClauses tableSearch answers passes
 families-pass = refl

@@ -1,4 +1,5 @@
 pub mod Samples
 pub mod Families
 pub mod Prices
+pub mod Settled
 pub mod Holding

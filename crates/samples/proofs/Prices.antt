@@ -6,7 +6,7 @@ use mathlib.Core.List.{List, [], _∷_}
 use native.Mathlib.Omega.{arith}
 use borrow.Author.Tests.{le-ltb}
 use lib.Dec.{ltb}
-use Rattle.sets.specs.Member.{member}
+use Rattle.sets.specs.Member.{member, countOf}
 use Rattle.table.specs.declared.refusal.Verdict.the-variants.{Accepted}
 use Rattle.table.specs.Table.{Table, tableOf, records}
 use Rattle.table.specs.Accept.{all, any, distinct, nodesFit, tableVerdict, listVerdict}
@@ -23,9 +23,9 @@ use Rattle.circuit.specs.Gates.{nodeGates, gates}
 use Rattle.circuit.specs.Clauses.{demands, clauses}
 use Rattle.closure.specs.Closure.{Marks, Progress, clash, marked, closure, open-in, take-clause, round, rounds, marksOf}
 use Rattle.closure.specs.Numbered.{sameCode, place, numberedClauses}
-use Rattle.search.specs.Search.{Best, find, Walked, passed, cut, Outcome, found, answerOf, uncapped, choose, walk, search}
+use Rattle.search.specs.Search.{Best, find, Walked, passed, cut, Outcome, found, spent, answerOf, uncapped, choose, walk, search}
 use Rattle.search.specs.TableSearch.{tableSearch, markPrice, searchFree, listOf}
-use Rattle.search.specs.Right.{choices, SearchIsRight}
+use Rattle.search.specs.Right.{choices, settled, SearchIsRight}
 use Rattle.search.proofs.Right.{search-is-right}
 use Rattle.samples.specs.Samples.{answers, passes, priced}
 use Rattle.samples.specs.Prices.{SheetAt, priceCases}
@@ -61,7 +61,7 @@ module _ (p q r s : ℕ) where
 
   -- the sixth choice, and what comes of the search by whether the fifth undercuts
   abbrev sixth : Walked → Outcome
-  sixth w = answerOf (elim w [
+  sixth w = answerOf 1 (elim w [
     | passed b c ↦ choose uncapped close (markPrice T) (neg 1) [] b c (walk uncapped close (markPrice T) (2 ∷ 3 ∷ []))
     | cut c ↦ cut c
   ])
@@ -73,7 +73,7 @@ module _ (p q r s : ℕ) where
   ])
 
   by-price : searchFree T ≡ after (ltb (markPrice T dearer) (markPrice T first-find))
-  unfolding marksIn member records all any tabulate iterate nextIn level levels gateClauses concat outOf nodeVariables variables nodeGates gates select demands clauses open-in take-clause round rounds marksOf walk search sameCode place numberedClauses tableSearch
+  unfolding marksIn member countOf records all any tabulate iterate nextIn level levels gateClauses concat outOf nodeVariables variables nodeGates gates select demands clauses open-in take-clause round rounds marksOf walk search sameCode place numberedClauses tableSearch
   by-price = refl
 
   found-price : markPrice T first-find ≡ 0 + 0 + 0 + r + 0
@@ -84,7 +84,7 @@ module _ (p q r s : ℕ) where
   unfolding marksIn member records all any tabulate iterate nextIn level levels gateClauses concat outOf nodeVariables variables nodeGates gates select demands clauses open-in take-clause round rounds marksOf walk search sameCode place numberedClauses tableSearch sumBelow
   dearer-price = refl
 
-  whole : searchFree T ≡ found first-find (markPrice T first-find) 6
+  whole : searchFree T ≡ found first-find (markPrice T first-find) 6 1
   unfolding marksIn member records all any tabulate iterate nextIn level levels gateClauses concat outOf nodeVariables variables nodeGates gates select demands clauses open-in take-clause round rounds marksOf walk search sameCode place numberedClauses tableSearch
   whole = by-price ∙ ap after (le-ltb (markPrice T dearer) (markPrice T first-find) (no-less _ _ r s found-price dearer-price))
 
@@ -103,17 +103,17 @@ module _ (p q r s : ℕ) where
   right : SearchIsRight T
   right = search-is-right T (accepted (priced p q r s) is-accepted .table)
 
-  free : searchFree T ≡ found first-find r 6
-  free = whole ∙ ap (λ (k : ℕ). found first-find k 6) (just _ r found-price)
+  free : searchFree T ≡ found first-find r 6 1
+  free = whole ∙ ap (λ (k : ℕ). found first-find k 6 1) (just _ r found-price)
 
   pub whatever-prices : SheetAt p q r s
   whatever-prices = record {
     found-from-6 = λ cap h. (first-find, right .same-within cap (omega (arith, ap choices free)) ∙ free, its-list, ap (strike T) its-list ∙ struck);
-    spent-below-6 = λ cap h. right .spent-over cap (omega (arith, ap choices free));
+    spent-below-6 = λ cap h. right .spent-over cap (omega (arith, ap choices free)) ∙ ap (λ (o : Outcome). spent cap (settled o)) free;
   }
 
 -- ---- the fork
 
 pub prices-pass : all passes priceCases ≡ true
-unfolding member records all any distinct nodesFit tableVerdict listVerdict bottomUp tabulate iterate nextIn level levels keptSteps endsFrom labelOf label sumBelow reachedSet strike judgeVerdict gateClauses concat outOf nodeVariables variables nodeGates gates select demands clauses open-in take-clause round rounds marksOf walk search sameCode place numberedClauses tableSearch answers passes
+unfolding member countOf records all any distinct nodesFit tableVerdict listVerdict bottomUp tabulate iterate nextIn level levels keptSteps endsFrom labelOf label sumBelow reachedSet strike judgeVerdict gateClauses concat outOf nodeVariables variables nodeGates gates select demands clauses open-in take-clause round rounds marksOf walk search sameCode place numberedClauses tableSearch answers passes
 prices-pass = refl

@@ -1,7 +1,7 @@
 -- Every starred sample has its answer, by computation from the definitions.
 use mathlib.Core.Path.{_≡_, refl}
 use mathlib.Core.Bool.{true}
-use Rattle.sets.specs.Member.{member}
+use Rattle.sets.specs.Member.{member, countOf}
 use Rattle.table.specs.Table.{records}
 use Rattle.table.specs.Accept.{all, any, distinct, nodesFit, tableVerdict, listVerdict}
 use Rattle.ctl.specs.Rule.{bottomUp}
@@ -21,5 +21,5 @@ use Rattle.search.specs.TableSearch.{tableSearch}
 use Rattle.samples.specs.Samples.{answers, passes, cases}
 
 pub samples-pass : all passes cases ≡ true
-unfolding member records all any distinct nodesFit tableVerdict listVerdict bottomUp tabulate iterate nextIn level levels keptSteps endsFrom labelOf label sumBelow reachedSet strike judgeVerdict gateClauses concat outOf nodeVariables variables nodeGates gates select demands clauses open-in take-clause round rounds marksOf walk search sameCode place numberedClauses tableSearch answers passes
+unfolding member countOf records all any distinct nodesFit tableVerdict listVerdict bottomUp tabulate iterate nextIn level levels keptSteps endsFrom labelOf label sumBelow reachedSet strike judgeVerdict gateClauses concat outOf nodeVariables variables nodeGates gates select demands clauses open-in take-clause round rounds marksOf walk search sameCode place numberedClauses tableSearch answers passes
 samples-pass = refl

@@ -38,29 +38,29 @@ no-stay = 0 ∷ 1 ∷ 1 ∷ 1 ∷ []
 -- Labels 1 2: p0 at state 0 and p1 at state 1. Labels 0 2: p1 at state 1 alone. Labels 2 0: p1 at state 0 alone.
 abbrev pub familyCases : List Case
 familyCases =
-    searched (pages 1 2 (p0-until-p1 10)) 1000000 (finds no-stay no-stay 1 6)
-    ∷ searched (pages 0 2 (p0-until-p1 10)) 1000000 (finds-none 0)
+    searched (pages 1 2 (p0-until-p1 10)) 1000000 (finds no-stay no-stay 1 6 0)
+    ∷ searched (pages 0 2 (p0-until-p1 10)) 1000000 (finds-none 0 0)
     ∷ judged (pages 1 2 (p0-until-p1 10)) all-kept 13
     ∷ judged (pages 1 2 (p0-until-p1 10)) leaves 0
-    ∷ searched (pages 1 2 (p0-until-p1 11)) 1000000 (finds all-kept all-kept 0 8)
-    ∷ searched (pages 0 2 (p0-until-p1 11)) 1000000 (finds-none 0)
+    ∷ searched (pages 1 2 (p0-until-p1 11)) 1000000 (finds all-kept all-kept 0 8 0)
+    ∷ searched (pages 0 2 (p0-until-p1 11)) 1000000 (finds-none 0 0)
     ∷ judged (pages 1 2 (p0-until-p1 11)) all-kept 0
     ∷ judged (pages 1 2 (p0-until-p1 11)) stays 13
-    ∷ searched (pages 0 2 (of-p1 12)) 1000000 (finds no-stay no-stay 1 6)
-    ∷ searched (pages 1 0 (of-p1 12)) 1000000 (finds-none 2)
+    ∷ searched (pages 0 2 (of-p1 12)) 1000000 (finds no-stay no-stay 1 6 0)
+    ∷ searched (pages 1 0 (of-p1 12)) 1000000 (finds-none 2 0)
     ∷ judged (pages 0 2 (of-p1 12)) all-kept 13
     ∷ judged (pages 0 2 (of-p1 12)) leaves 0
-    ∷ searched (pages 0 2 (of-p1 13)) 1000000 (finds all-kept all-kept 0 8)
-    ∷ searched (pages 1 0 (of-p1 13)) 1000000 (finds-none 0)
+    ∷ searched (pages 0 2 (of-p1 13)) 1000000 (finds all-kept all-kept 0 8 0)
+    ∷ searched (pages 1 0 (of-p1 13)) 1000000 (finds-none 0 0)
     ∷ judged (pages 0 2 (of-p1 13)) all-kept 0
     ∷ judged (pages 0 2 (of-p1 13)) stays 13
-    ∷ searched (pages 2 0 (of-p1 14)) 1000000 (finds (1 ∷ 0 ∷ 1 ∷ 1 ∷ []) stays 1 4)
-    ∷ searched (pages 2 0 (of-p1 14)) 1 (spends 1)
-    ∷ searched (pages 0 2 (of-p1 14)) 1000000 (finds-none 0)
+    ∷ searched (pages 2 0 (of-p1 14)) 1000000 (finds (1 ∷ 0 ∷ 1 ∷ 1 ∷ []) stays 1 4 2)
+    ∷ searched (pages 2 0 (of-p1 14)) 1 (spends 1 2)
+    ∷ searched (pages 0 2 (of-p1 14)) 1000000 (finds-none 0 0)
     ∷ judged (pages 2 0 (of-p1 14)) all-kept 13
     ∷ judged (pages 2 0 (of-p1 14)) stays 0
-    ∷ searched (pages 2 0 (of-p1 15)) 1000000 (finds all-kept all-kept 0 6)
-    ∷ searched (pages 0 2 (of-p1 15)) 1000000 (finds-none 0)
+    ∷ searched (pages 2 0 (of-p1 15)) 1000000 (finds all-kept all-kept 0 6 1)
+    ∷ searched (pages 0 2 (of-p1 15)) 1000000 (finds-none 0 0)
     ∷ judged (pages 2 0 (of-p1 15)) all-kept 0
     ∷ judged (pages 2 0 (of-p1 15)) leaves 13
     ∷ judged (pages 0 2 (of-p1 15)) (1 ∷ 0 ∷ 1 ∷ 0 ∷ []) 16

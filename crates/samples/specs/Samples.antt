@@ -1,4 +1,4 @@
--- 01, "Sample tables": the cases marked *, each with its answer, as 02's A3 and A4 have it.
+-- 01, "Sample tables": the cases marked *, each with its answer, as 02's A3 to A5 have it.
 use Prim.Native.Nat.{ℕ}
 use mathlib.Core.Bool.{Bool, false, _&&_}
 use mathlib.Core.List.{List, [], _∷_, _++_}
@@ -11,10 +11,11 @@ use Rattle.search.specs.Search.{Outcome, found, none, spent}
 use Rattle.closure.specs.Numbered.{sameCode}
 use Rattle.search.specs.TableSearch.{searchUnder, listOf}
 
--- What the search answers, with its choices last. What it finds is given before striking and struck, and then the price of the first of the two.
+-- What the search answers, with its choices and, 02's A5, the steps settled before the first. What it finds is given before striking and struck, and then
+-- the price of the first of the two.
 pub data Answer : Type 0 where
-  finds : List ℕ → List ℕ → ℕ → ℕ → Answer
-  finds-none spends : ℕ → Answer
+  finds : List ℕ → List ℕ → ℕ → ℕ → ℕ → Answer
+  finds-none spends : ℕ → ℕ → Answer
 
 -- a table searched under a cap, or a list judged
 pub data Case : Type 0 where
@@ -22,15 +23,15 @@ pub data Case : Type 0 where
   judged : List ℕ → List ℕ → ℕ → Case
 
 unfoldable pub answers : Table → Answer → Outcome → Bool
-answers T (finds before list p c) (found m q k) = sameCode (listOf T m) before && sameCode (strike T before) list && eqb q p && eqb k c
-answers T (finds before list p c) (none k) = false
-answers T (finds before list p c) (spent k) = false
-answers T (finds-none c) (found m q k) = false
-answers T (finds-none c) (none k) = eqb k c
-answers T (finds-none c) (spent k) = false
-answers T (spends c) (found m q k) = false
-answers T (spends c) (none k) = false
-answers T (spends c) (spent k) = eqb k c
+answers T (finds before list p c k) (found m q d l) = sameCode (listOf T m) before && sameCode (strike T before) list && eqb q p && eqb d c && eqb l k
+answers T (finds before list p c k) (none d l) = false
+answers T (finds before list p c k) (spent d l) = false
+answers T (finds-none c k) (found m q d l) = false
+answers T (finds-none c k) (none d l) = eqb d c && eqb l k
+answers T (finds-none c k) (spent d l) = false
+answers T (spends c k) (found m q d l) = false
+answers T (spends c k) (none d l) = false
+answers T (spends c k) (spent d l) = eqb d c && eqb l k
 
 unfoldable pub passes : Case → Bool
 passes (searched table cap answer) = let T = tableOf table in answers T answer (searchUnder T cap)
@@ -62,18 +63,18 @@ dead-end = (2 ∷ 1 ∷ 1 ∷ 0 ∷ []) ++ (1 ∷ 0 ∷ 0 ∷ 0 ∷ 0 ∷ 0 ∷ 
 
 abbrev pub cases : List Case
 cases =
-    searched sheet 1000000 (finds (1 ∷ 1 ∷ 0 ∷ 1 ∷ []) (1 ∷ 1 ∷ 0 ∷ 0 ∷ []) 3 6)
-    ∷ searched sheet 6 (finds (1 ∷ 1 ∷ 0 ∷ 1 ∷ []) (1 ∷ 1 ∷ 0 ∷ 0 ∷ []) 3 6)
-    ∷ searched sheet 5 (spends 5)
-    ∷ searched sheet 3 (spends 3)
+    searched sheet 1000000 (finds (1 ∷ 1 ∷ 0 ∷ 1 ∷ []) (1 ∷ 1 ∷ 0 ∷ 0 ∷ []) 3 6 1)
+    ∷ searched sheet 6 (finds (1 ∷ 1 ∷ 0 ∷ 1 ∷ []) (1 ∷ 1 ∷ 0 ∷ 0 ∷ []) 3 6 1)
+    ∷ searched sheet 5 (spends 5 1)
+    ∷ searched sheet 3 (spends 3 1)
     ∷ judged sheet (1 ∷ 1 ∷ 0 ∷ 1 ∷ []) 16
     ∷ judged sheet (1 ∷ 1 ∷ 0 ∷ 0 ∷ []) 0
     ∷ judged sheet (1 ∷ 1 ∷ 1 ∷ 1 ∷ []) 13
     ∷ judged sheet (1 ∷ 1 ∷ 1 ∷ 0 ∷ []) 11
     ∷ judged sheet (0 ∷ 0 ∷ 0 ∷ 1 ∷ []) 12
-    ∷ searched (loop 1) 1000000 (finds-none 0)
-    ∷ searched (loop 2) 1000000 (finds (1 ∷ []) (1 ∷ []) 0 0)
-    ∷ searched (loop 3) 1000000 (finds (1 ∷ []) (1 ∷ []) 0 0)
-    ∷ searched two-loops 1000000 (finds (1 ∷ 0 ∷ []) (1 ∷ 0 ∷ []) 255 0)
-    ∷ searched dead-end 1000000 (finds-none 0)
+    ∷ searched (loop 1) 1000000 (finds-none 0 0)
+    ∷ searched (loop 2) 1000000 (finds (1 ∷ []) (1 ∷ []) 0 0 1)
+    ∷ searched (loop 3) 1000000 (finds (1 ∷ []) (1 ∷ []) 0 0 1)
+    ∷ searched two-loops 1000000 (finds (1 ∷ 0 ∷ []) (1 ∷ 0 ∷ []) 255 0 2)
+    ∷ searched dead-end 1000000 (finds-none 0 0)
     ∷ []

@@ -2,7 +2,7 @@
 use Prim.Native.Nat.{ℕ, suc, _+_, _-_, _^_, _≤_, _<_, zero-le}
 use native.Mathlib.Nat.{pow-suc}
 use native.Mathlib.Omega.{arith}
-use mathlib.Core.Path.{_≡_, refl, ap}
+use mathlib.Core.Path.{_≡_, refl, sym, ap, _∙_}
 use mathlib.Core.Bool.{Bool, true, false}
 use mathlib.Core.List.{List, [], _∷_}
 use borrow.Author.Tests.{eqb-true, eqb-false}
@@ -10,9 +10,9 @@ use lib.Dec.{eqb}
 use lib.ListN.{length}
 use lib.Pow.{pow-pos}
 use Rattle.circuit.specs.Logic.{Literal, pos, neg}
-use Rattle.closure.specs.Closure.{Marks, markAt, isKnown, Progress, clash, marked}
-use Rattle.search.specs.Search.{Best, unfound, find, undercuts, Walked, passed, cut, spent, answerOf, capped, uncapped, pursue, walk, search}
-use Rattle.search.specs.Right.{choices}
+use Rattle.closure.specs.Closure.{Marks, markAt, isKnown, Progress, clash, marked, settledBelow}
+use Rattle.search.specs.Search.{Best, unfound, find, undercuts, Walked, passed, cut, spent, answerOf, capped, uncapped, pursue, walk, walkAll, search}
+use Rattle.search.specs.Right.{choices, settled}
 use Rattle.search.proofs.Step.{pursued, chosen, andThen, walk-known, walk-unknown}
 
 -- the choices made by the end
@@ -20,10 +20,16 @@ abbrev pub made : Walked → ℕ
 made (passed b c) = c
 made (cut c) = c
 
-choices-made : (w : Walked) → choices (answerOf w) ≡ made w
-choices-made (passed unfound c) = refl
-choices-made (passed (find m p) c) = refl
-choices-made (cut c) = refl
+choices-made : (k : ℕ) (w : Walked) → choices (answerOf k w) ≡ made w
+choices-made k (passed unfound c) = refl
+choices-made k (passed (find m p) c) = refl
+choices-made k (cut c) = refl
+
+-- the settled steps are those it is given
+pub settled-given : (k : ℕ) (w : Walked) → settled (answerOf k w) ≡ k
+settled-given k (passed unfound c) = refl
+settled-given k (passed (find m p) c) = refl
+settled-given k (cut c) = refl
 
 -- ---- without a cap
 
@@ -82,18 +88,15 @@ module _ (close : List (Literal ℕ) → Progress) (price : Marks → ℕ) where
           (chosen-uncut (length js) _ h (close (pos j ∷ P)) (λ n. undercuts (price n) b) (pos j ∷ P) b count)
           (λ b′. chosen-uncut (length js) _ h (close (neg j ∷ P)) (λ n. undercuts (price n) b′) (neg j ∷ P) b′))
 
-  abbrev all-walked : (ℕ → Bool) → List ℕ → Walked
-  all-walked atCap steps = pursue close price [] unfound 0 (walk atCap close price steps)
-
-  search-bound : (steps : List ℕ) → Uncut 0 (length steps) (all-walked uncapped steps)
+  search-bound : (steps : List ℕ) → Uncut 0 (length steps) (walkAll uncapped close price steps)
   search-bound steps = pursued-uncut (length steps) (walk uncapped close price steps) (walk-uncut steps) (close []) (λ n. true) [] unfound 0
 
   -- the search without a cap is never spent
-  pub search-unspent : (steps : List ℕ) (c : ℕ) → ¬ (search uncapped close price steps ≡ spent c)
+  pub search-unspent : (steps : List ℕ) (c k : ℕ) → ¬ (search uncapped close price steps ≡ spent c k)
   unfolding search
-  search-unspent steps c = by (all-walked uncapped steps) (search-bound steps .uncut)
+  search-unspent steps c k = by (walkAll uncapped close price steps) (search-bound steps .uncut)
     where
-      by : (w : Walked) → ((d : ℕ) → ¬ (w ≡ cut d)) → ¬ (answerOf w ≡ spent c)
+      by : (w : Walked) → ((d : ℕ) → ¬ (w ≡ cut d)) → ¬ (answerOf (settledBelow (length steps) (close [])) w ≡ spent c k)
       by (passed unfound d) u e = let z : _≡_ {A = ℕ} 0 1 = cc in omega arith
       by (passed (find m p) d) u e = let z : _≡_ {A = ℕ} 0 1 = cc in omega arith
       by (cut d) u e = u d refl
@@ -101,7 +104,7 @@ module _ (close : List (Literal ℕ) → Progress) (price : Marks → ℕ) where
   -- its choices are at most 2 ^ (e + 1) - 2, of e steps
   pub search-few : (steps : List ℕ) → choices (search uncapped close price steps) ≤ 2 ^ suc (length steps) - 2
   unfolding search
-  search-few steps = omega (arith, search-bound steps .most, choices-made (all-walked uncapped steps))
+  search-few steps = omega (arith, search-bound steps .most, choices-made (settledBelow (length steps) (close [])) (walkAll uncapped close price steps))
 
 -- ---- under a cap
 
@@ -174,24 +177,34 @@ capped-made (over h e) = rw e (omega arith)
 capped-made (within h e) = rw e h
 
 module _ (close : List (Literal ℕ) → Progress) (price : Marks → ℕ) (steps : List ℕ) (cap : ℕ) where
-  whole : Capped cap (all-walked close price (capped cap) steps) (all-walked close price uncapped steps)
+  under : Walked
+  under = walkAll (capped cap) close price steps
+
+  free : Walked
+  free = walkAll uncapped close price steps
+
+  whole : Capped cap under free
+  unfolding under free
   whole = pursue-capped cap close price steps [] unfound 0 zero-le
 
+  -- the number of settled steps, which no cap changes
+  first : ℕ
+  first = settledBelow (length steps) (close [])
+
   -- where the search without a cap makes more choices than the cap, the one under it is spent, at the cap
-  pub search-cut : cap < choices (search uncapped close price steps) → search (capped cap) close price steps ≡ spent cap
-  unfolding search
+  pub search-cut : cap < choices (search uncapped close price steps) → search (capped cap) close price steps ≡ spent cap (settled (search uncapped close price steps))
+  unfolding search under free first
   search-cut more = by whole
     where
-      by : Capped cap (all-walked close price (capped cap) steps) (all-walked close price uncapped steps) → answerOf (all-walked close price (capped cap) steps) ≡ spent cap
-      by (over h e) = ap answerOf e
-      by (within h e) = absurd (omega (arith, choices-made (all-walked close price uncapped steps)))
+      by : Capped cap under free → answerOf first under ≡ spent cap (settled (answerOf first free))
+      by (over h e) = ap (answerOf first) e ∙ ap (spent cap) (sym (settled-given first free))
+      by (within h e) = absurd (omega (arith, choices-made first free))
 
   -- where it makes no more, the one under the cap gives the same
   pub search-same : choices (search uncapped close price steps) ≤ cap → search (capped cap) close price steps ≡ search uncapped close price steps
-  unfolding search
+  unfolding search under free first
   search-same few = by whole
     where
-      by : Capped cap (all-walked close price (capped cap) steps) (all-walked close price uncapped steps)
-          → answerOf (all-walked close price (capped cap) steps) ≡ answerOf (all-walked close price uncapped steps)
-      by (over h e) = absurd (omega (arith, choices-made (all-walked close price uncapped steps)))
-      by (within h e) = ap answerOf e
+      by : Capped cap under free → answerOf first under ≡ answerOf first free
+      by (over h e) = absurd (omega (arith, choices-made first free))
+      by (within h e) = ap (answerOf first) e

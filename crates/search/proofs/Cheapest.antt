@@ -7,11 +7,11 @@ use mathlib.Core.Logic.{_↔_, _⊎_, inl, inr, ⊎-elim}
 use mathlib.Core.Bool.{Bool, true, false, true≢false}
 use mathlib.Core.List.{List, [], _∷_, List·Memᴰ·head, List·Memᴰ·tail}
 use borrow.Author.Tests.{ltb-true, ltb-false}
-use lib.ListN.{getD}
+use lib.ListN.{length, getD}
 use Rattle.ctl.specs.Rank.{RanksBefore, Cheapest}
 use Rattle.circuit.specs.Logic.{Literal, pos, neg}
-use Rattle.closure.specs.Closure.{Marks, markAt, isKnown, Progress, clash, marked}
-use Rattle.search.specs.Search.{Best, unfound, find, undercuts, Walked, passed, cut, found, none, answerOf, uncapped, pursue, choose, walk, search}
+use Rattle.closure.specs.Closure.{Marks, markAt, isKnown, Progress, clash, marked, settledBelow}
+use Rattle.search.specs.Search.{Best, unfound, find, undercuts, Walked, passed, cut, found, none, answerOf, uncapped, pursue, choose, walk, walkAll, search}
 use Rattle.search.proofs.Step.{pursued, andThen, walk-known, walk-unknown}
 use Rattle.search.proofs.InOrder.{upFrom, below-upFrom}
 use Rattle.search.specs.TableSearch.{bytesOf}
@@ -159,40 +159,41 @@ module _ {e : ℕ} {Model : List ℕ → Type 0} {close : List (Literal ℕ) →
           (both-choices s (omega arith) i (walk uncapped close price (upFrom (suc k) n)) rest b count)
 
   -- all that is walked answers for all models
-  abbrev all-walked : Walked
-  all-walked = pursue close price [] unfound 0 (walk uncapped close price (below e))
-
-  all-answers : Walks [] unfound all-walked
+  all-answers : Walks [] unfound (walkAll uncapped close price (below e))
   all-answers = rw below-upFrom
       (pursue-answers 0 [] (right .fine-none) (walk uncapped close price (upFrom 0 e)) (stands-first right) (walk-answers e 0 (omega arith) []) unfound 0)
 
+  -- the number of settled steps that each answer carries
+  first : ℕ
+  first = settledBelow (length (below e)) (close [])
+
   -- the search gives none exactly where there is no model
-  pub search-none : ((c : ℕ) × (search uncapped close price (below e) ≡ none c)) ↔ ((list : List ℕ) → ¬ Model list)
-  unfolding search
-  search-none = (λ r. to all-walked all-answers (r .0) (r .1), from all-walked all-answers)
+  pub search-none : ((c : ℕ) × (k : ℕ) × (search uncapped close price (below e) ≡ none c k)) ↔ ((list : List ℕ) → ¬ Model list)
+  unfolding search first
+  search-none = (λ r. to (walkAll uncapped close price (below e)) all-answers (r .0) (r .1) (r .2), from (walkAll uncapped close price (below e)) all-answers)
     where
       no-model : (b : Best) → b ≡ unfound → Answers [] unfound b → (list : List ℕ) → ¬ Model list
       no-model b q (stays _ empty) list model = true≢false (empty list (model, member-none (AgreesWith list)))
       no-model b q (finds m f _ _) list model = let w : unfound ≡ find m (cost (bytesOf e m)) = sym q ∙ f in let z : _≡_ {A = ℕ} 0 1 = cc in omega arith
 
-      to : (w : Walked) → Walks [] unfound w → (c : ℕ) → answerOf w ≡ none c → (list : List ℕ) → ¬ Model list
-      to (passed unfound d) a c q = no-model unfound refl a
-      to (passed (find m p) d) a c q = let z : _≡_ {A = ℕ} 0 1 = cc in absurd (omega arith)
-      to (cut d) a c q = absurd a
+      to : (w : Walked) → Walks [] unfound w → (c k : ℕ) → answerOf first w ≡ none c k → (list : List ℕ) → ¬ Model list
+      to (passed unfound d) a c k q = no-model unfound refl a
+      to (passed (find m p) d) a c k q = let z : _≡_ {A = ℕ} 0 1 = cc in absurd (omega arith)
+      to (cut d) a c k q = absurd a
 
       from-found : (m : Marks) (p : ℕ) → Answers [] unfound (find m p) → ((list : List ℕ) → ¬ Model list) → ⊥
       from-found m p (stays f _) empty = let z : _≡_ {A = ℕ} 0 1 = cc in omega arith
       from-found m p (finds n f _ c) empty = empty (bytesOf e n) (c .first .member .0 .0)
 
-      from : (w : Walked) → Walks [] unfound w → ((list : List ℕ) → ¬ Model list) → (c : ℕ) × (answerOf w ≡ none c)
-      from (passed unfound c) a empty = (c, refl)
+      from : (w : Walked) → Walks [] unfound w → ((list : List ℕ) → ¬ Model list) → (c : ℕ) × (k : ℕ) × (answerOf first w ≡ none c k)
+      from (passed unfound c) a empty = (c, first, refl)
       from (passed (find m p) c) a empty = absurd (from-found m p a empty)
       from (cut c) a empty = absurd a
 
   -- and what it finds gives the cheapest model, with its price
-  pub search-found : (m : Marks) (p c : ℕ) → search uncapped close price (below e) ≡ found m p c → Cheapest cost Model (bytesOf e m) × (p ≡ cost (bytesOf e m))
-  unfolding search
-  search-found m p c = by all-walked all-answers
+  pub search-found : (m : Marks) (p c k : ℕ) → search uncapped close price (below e) ≡ found m p c k → Cheapest cost Model (bytesOf e m) × (p ≡ cost (bytesOf e m))
+  unfolding search first
+  search-found m p c k = by (walkAll uncapped close price (below e)) all-answers
     where
       whole : Cheapest cost (Among Model []) (bytesOf e m) → Cheapest cost Model (bytesOf e m)
       whole f = record {
@@ -210,7 +211,7 @@ module _ {e : ℕ} {Model : List ℕ → Type 0} {close : List (Literal ℕ) →
           let price-p : p ≡ cost (bytesOf e n) = cc in
           (whole (rw n-m at c), rw n-m at price-p)
 
-      by : (w : Walked) → Walks [] unfound w → answerOf w ≡ found m p c → Cheapest cost Model (bytesOf e m) × (p ≡ cost (bytesOf e m))
+      by : (w : Walked) → Walks [] unfound w → answerOf first w ≡ found m p c k → Cheapest cost Model (bytesOf e m) × (p ≡ cost (bytesOf e m))
       by (passed unfound d) a q = let z : _≡_ {A = ℕ} 0 1 = cc in absurd (omega arith)
       by (passed (find m′ p′) d) a q = let same-m : m′ ≡ m = cc in let same-p : p′ ≡ p = cc in of-find m′ p′ same-m same-p a
       by (cut d) a q = absurd a

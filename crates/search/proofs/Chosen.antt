@@ -19,6 +19,8 @@ use Rattle.rows.specs.declared.row.Row.{Row}
 use Rattle.closure.specs.Closure.{given}
 use Rattle.rows.specs.Row.{known}
 use Rattle.rows.specs.Words.{rowAt, stepPlace}
+use Rattle.rows.specs.Steps.{wordOf}
+use Rattle.rows.proofs.StepWords.{word-below, word-bit, word-apart}
 use Rattle.ctl.specs.Rule.{operatorOf}
 use Rattle.closure.specs.Knowledge.{Sized, secondChild, levelBase}
 use Rattle.propagate.specs.Memory.{nodePlace, keptPlace, memory}
@@ -26,9 +28,9 @@ use Rattle.closure.specs.Inside.{literal, RowIn, StepsIn}
 use Rattle.closure.specs.Advance.{ForcedBy}
 use Rattle.closure.specs.Closes.{stepKnown, Between}
 use Rattle.closure.proofs.Forced.{forced-monotone}
-use Rattle.search.specs.StepRows.{wordOf, withStep}
+use Rattle.search.specs.StepRows.{withStep}
 use Rattle.search.specs.Stands.{stepLiterals}
-use Rattle.search.proofs.StepWords.{word-below, word-bit, word-apart, more, more-only, more-keeps, more-new}
+use Rattle.search.proofs.OneMore.{more, more-only, more-keeps, more-new}
 
 module _ (T : Table) (wf : Wellformed T) (rows words : List ℕ) (sized : Sized T (memory rows words)) (sign : Bool) (j : ℕ) (inside : j < length (T .steps)) where
   -- the rows with step j of this sign, and the word that changes

@@ -1,9 +1,11 @@
 -- The search of a table from nothing chosen, in the code's steps.
 use Prim.Native.Nat.{ℕ}
 use native.Mathlib.Omega.{arith}
-use mathlib.Core.Path.{_≡_, refl, sym, subst, _∙_}
+use mathlib.Core.Path.{_≡_, refl, sym, ap, subst, _∙_}
 use mathlib.Core.List.{List, []}
 use Rattle.table.specs.Table.{Table}
+use Rattle.ctl.proofs.Tabulate.{length-tabulate}
+use Rattle.closure.specs.Closure.{settledBelow}
 use Rattle.propagate.specs.Memory.{Memory}
 use Rattle.search.specs.declared.best.Best.{Best as Held}
 use Rattle.search.specs.declared.best.Best.the-variants.{Unfound}
@@ -15,23 +17,29 @@ use Rattle.search.specs.Search.{unfound, search, answerOf}
 use Rattle.search.specs.TableSearch.{tableSearch, searchUnder}
 use Rattle.search.specs.Answer.{outcomeOf, listAfter}
 use Rattle.search.specs.Finds.{finished, written, Gives}
-use Rattle.search.specs.Stands.{StandsAt, GoesOn, Somewhere, GivesFrom, Comes, walkFrom, searchFrom}
+use Rattle.search.specs.Stands.{closureOf, StandsAt, GoesOn, Somewhere, GivesFrom, Comes, walkFrom, searchFrom}
 use Rattle.search.proofs.Giving.{gives-same, gives-answer, gives-list}
 use Rattle.search.proofs.WalkOn.{walk-passed, search-marked}
 use lib.ListN.{length}
 
 module _ (T : Table) (cap : ℕ) where
-  as-search : searchUnder T cap ≡ answerOf (searchFrom T cap 0 [] unfound 0)
-  unfolding tableSearch search
-  as-search = refl
+  -- the settled steps of the closure of nothing
+  first : ℕ
+  first = settledBelow (length (T .steps)) (closureOf T [])
+
+  as-search : searchUnder T cap ≡ answerOf first (searchFrom T cap 0 [] unfound 0)
+  unfolding tableSearch search first
+  as-search = ap (λ (e : ℕ). answerOf (settledBelow e (closureOf T [])) (searchFrom T cap 0 [] unfound 0)) (length-tabulate (length (T .steps)) (λ k. k))
 
   -- what is answered and written, where all was walked as the search does
   module _ (bytes : List ℕ) (r : Finished) (g : Gives T (searchFrom T cap 0 [] unfound 0) bytes r) where
-    pub start-answer : finished r ≡ outcomeOf (searchUnder T cap)
-    start-answer = gives-answer T (searchFrom T cap 0 [] unfound 0) bytes r g ∙ sym (λ i. outcomeOf (as-search i))
+    pub start-answer : (k : ℕ) → k ≡ settledBelow (length (T .steps)) (closureOf T []) → finished k r ≡ outcomeOf (searchUnder T cap)
+    unfolding first
+    start-answer k settled =
+        ap (λ (n : ℕ). finished n r) settled ∙ gives-answer T first (searchFrom T cap 0 [] unfound 0) bytes r g ∙ sym (λ i. outcomeOf (as-search i))
 
     pub start-list : (list : List ℕ) → written (length (T .steps)) r bytes list ≡ listAfter T (searchUnder T cap) list
-    start-list list = gives-list T (searchFrom T cap 0 [] unfound 0) bytes r list g ∙ sym (λ i. listAfter T (as-search i) list)
+    start-list list = gives-list T first (searchFrom T cap 0 [] unfound 0) bytes r list g ∙ sym (λ i. listAfter T (as-search i) list)
 
   module _ (M : Memory) (bytes : List ℕ) (reached : Reached) (comes : Comes T Unfound M bytes [] unfound reached) where
     -- an end was reached

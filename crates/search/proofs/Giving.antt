@@ -39,20 +39,20 @@ module _ (T : Table) where
 
   -- ---- once all is walked
 
-  pub gives-answer : (w : Walked) (bytes : List ℕ) (r : Finished) → Gives T w bytes r → finished r ≡ outcomeOf (answerOf w)
-  gives-answer (passed unfound c) bytes (Passed Unfound d) g = λ i. finished (Passed Unfound (g .1 i))
-  gives-answer (passed unfound c) bytes (Passed (Cheapest q) d) g = absurd (g .0)
-  gives-answer (passed (find m p) c) bytes (Passed Unfound d) g = absurd (g .0)
-  gives-answer (passed (find m p) c) bytes (Passed (Cheapest q) d) g = λ i. Found (g .0 .0 i) (g .1 i)
-  gives-answer (passed b c) bytes (Cut d) g = absurd g
-  gives-answer (cut c) bytes (Passed best d) g = absurd g
-  gives-answer (cut c) bytes (Cut d) g = λ i. finished (Cut (g i))
+  pub gives-answer : (k : ℕ) (w : Walked) (bytes : List ℕ) (r : Finished) → Gives T w bytes r → finished k r ≡ outcomeOf (answerOf k w)
+  gives-answer k (passed unfound c) bytes (Passed Unfound d) g = λ i. finished k (Passed Unfound (g .1 i))
+  gives-answer k (passed unfound c) bytes (Passed (Cheapest q) d) g = absurd (g .0)
+  gives-answer k (passed (find m p) c) bytes (Passed Unfound d) g = absurd (g .0)
+  gives-answer k (passed (find m p) c) bytes (Passed (Cheapest q) d) g = λ i. Found (g .0 .0 i) (g .1 i) k
+  gives-answer k (passed b c) bytes (Cut d) g = absurd g
+  gives-answer k (cut c) bytes (Passed best d) g = absurd g
+  gives-answer k (cut c) bytes (Cut d) g = λ i. finished k (Cut (g i))
 
-  pub gives-list : (w : Walked) (bytes : List ℕ) (r : Finished) (list : List ℕ) → Gives T w bytes r → written (length (T .steps)) r bytes list ≡ listAfter T (answerOf w) list
-  gives-list (passed unfound c) bytes (Passed Unfound d) list g = refl
-  gives-list (passed unfound c) bytes (Passed (Cheapest q) d) list g = absurd (g .0)
-  gives-list (passed (find m p) c) bytes (Passed Unfound d) list g = absurd (g .0)
-  gives-list (passed (find m p) c) bytes (Passed (Cheapest q) d) list g = ap (λ (l : List ℕ). l ++ drop (length (T .steps)) list) (g .0 .1)
-  gives-list (passed b c) bytes (Cut d) list g = absurd g
-  gives-list (cut c) bytes (Passed best d) list g = absurd g
-  gives-list (cut c) bytes (Cut d) list g = refl
+  pub gives-list : (k : ℕ) (w : Walked) (bytes : List ℕ) (r : Finished) (list : List ℕ) → Gives T w bytes r → written (length (T .steps)) r bytes list ≡ listAfter T (answerOf k w) list
+  gives-list k (passed unfound c) bytes (Passed Unfound d) list g = refl
+  gives-list k (passed unfound c) bytes (Passed (Cheapest q) d) list g = absurd (g .0)
+  gives-list k (passed (find m p) c) bytes (Passed Unfound d) list g = absurd (g .0)
+  gives-list k (passed (find m p) c) bytes (Passed (Cheapest q) d) list g = ap (λ (l : List ℕ). l ++ drop (length (T .steps)) list) (g .0 .1)
+  gives-list k (passed b c) bytes (Cut d) list g = absurd g
+  gives-list k (cut c) bytes (Passed best d) list g = absurd g
+  gives-list k (cut c) bytes (Cut d) list g = refl

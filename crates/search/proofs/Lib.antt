@@ -8,11 +8,13 @@ pub mod Undercut
 pub mod Cheapest
 pub mod RepairSound
 pub mod ByNumber
+pub mod StepClosure
 pub mod SettledRepair
 pub mod ClosureRight
 pub mod PriceRight
 pub mod Right
-pub mod StepWords
+pub mod UnderCap
+pub mod OneMore
 pub mod Lowest
 pub mod Closing
 pub mod WalkOn

@@ -14,6 +14,7 @@ use Rattle.table.specs.Table.{Table}
 use Rattle.table.specs.Facts.{Wellformed}
 use Rattle.ctl.proofs.Tabulate.{length-tabulate}
 use Rattle.circuit.specs.Logic.{Literal}
+use Rattle.closure.specs.declared.sweep.Closure.{Closure}
 use Rattle.closure.specs.Closure.{Marks, markAt, isKnown, known, marked}
 use Rattle.propagate.specs.Memory.{Memory}
 use Rattle.closure.specs.Closes.{stepKnown, Closes}
@@ -31,24 +32,24 @@ use Rattle.search.proofs.Giving.{stored-beats}
 use Rattle.search.proofs.WalkOn.{walk-settled, search-clash, search-dear, search-marked}
 
 module _ (T : Table) (wf : Wellformed T) (P : List (Literal ℕ)) (fine : Fine (length (T .steps)) P)
-    (fails : Bool) (M : Memory) (closes : Closes T (stepLiterals P) fails M) (best : Held) (bytes : List ℕ) (b : Best) (stores : Stores T b best bytes) where
+    (c : Closure) (M : Memory) (closes : Closes T (stepLiterals P) c M) (best : Held) (bytes : List ℕ) (b : Best) (stores : Stores T b best bytes) where
   -- it fails
-  pub comes-failed : fails ≡ true → Comes T best M bytes P b (Ended best)
-  comes-failed e = (b, stores, λ cap j made h. search-clash T cap j P b made (closed-clash T wf P fine fails M closes .0 e))
+  pub comes-failed : c .fails ≡ true → Comes T best M bytes P b (Ended best)
+  comes-failed e = (b, stores, λ cap j made h. search-clash T cap j P b made (closed-clash T wf P fine c M closes .0 e))
 
-  module _ (e : fails ≡ false) where
+  module _ (e : c .fails ≡ false) where
     m : Marks
-    m = closed-marked T wf P fine fails M closes e .0
+    m = closed-marked T wf P fine c M closes e .0
 
     new : Bool
-    new = closed-marked T wf P fine fails M closes e .1
+    new = closed-marked T wf P fine c M closes e .1
 
     closed : closureOf T P ≡ marked m new
     unfolding m new
-    closed = closed-marked T wf P fine fails M closes e .2
+    closed = closed-marked T wf P fine c M closes e .2
 
     exact : (i : ℕ) (sign : Bool) → i < length (T .steps) → (stepKnown T (M .rows) sign i ≡ true) ↔ (markAt m i ≡ known sign)
-    exact = closed-exact T wf P fine fails M closes e closed
+    exact = closed-exact T wf P fine c M closes e closed
 
     -- the rows cost what the marks do
     same-price : (price : ℕ) → price ≡ rowsPrice T (M .rows) → (x : Bool) → x ≡ beats price best → undercuts (markPrice T m) b ≡ x

@@ -10,10 +10,11 @@ use Rattle.table.specs.Table.{Table, stepAt}
 use Rattle.table.proofs.Bools.{same-test}
 use Rattle.ctl.proofs.Price.{price-same}
 use Rattle.ctl.proofs.Tabulate.{length-tabulate, getD-tabulate}
+use Rattle.rows.specs.Steps.{stepBit}
 use Rattle.closure.specs.Closure.{Mark, unknown, known, Marks, markAt, isKnown}
 use Rattle.closure.specs.Closes.{stepKnown}
 use Rattle.search.specs.TableSearch.{bitOf, isStruck, markPrice, listOf}
-use Rattle.search.specs.StepRows.{stepBit, isUnsettled, rowsPrice, keptBytes}
+use Rattle.search.specs.StepRows.{isUnsettled, rowsPrice, keptBytes}
 use Rattle.search.proofs.Agree.{length-bytesOf, getD-bytesOf}
 
 -- the mark is known with this sign

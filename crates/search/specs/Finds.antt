@@ -21,10 +21,11 @@ abbrev pub beats : ℕ → Held → Bool
 beats price Unfound = true
 beats price (Cheapest least) = ltb price least
 
-abbrev pub finished : Finished → Answer
-finished (Passed Unfound c) = None c
-finished (Passed (Cheapest p) c) = Found p c
-finished (Cut c) = Spent c
+-- the answer, with the number of settled steps that it carries
+abbrev pub finished : ℕ → Finished → Answer
+finished settled (Passed Unfound c) = None c settled
+finished settled (Passed (Cheapest p) c) = Found p c settled
+finished settled (Cut c) = Spent c settled
 
 -- the lent list afterwards, of e steps: the find stands at the front, and the rest stays
 abbrev pub written : ℕ → Finished → List ℕ → List ℕ → List ℕ

@@ -3,8 +3,9 @@ use Prim.Native.Nat.{ℕ, suc}
 use mathlib.Core.Bool.{Bool, true, false}
 use mathlib.Core.List.{List, [], _∷_}
 use lib.Dec.{eqb, ltb}
+use lib.ListN.{length}
 use Rattle.circuit.specs.Logic.{Literal, pos, neg}
-use Rattle.closure.specs.Closure.{Marks, markAt, isKnown, Progress, clash, marked}
+use Rattle.closure.specs.Closure.{Marks, markAt, isKnown, Progress, clash, marked, settledBelow}
 
 -- the cheapest find so far: none, or the marks of a closure that settles every step, and their price
 pub data Best : Type 0 where
@@ -21,16 +22,16 @@ pub data Walked : Type 0 where
   passed : Best → ℕ → Walked
   cut : ℕ → Walked
 
--- the answer: what is found, with its price and the choices made; none or spent, with the choices made
+-- the answer: what is found, with its price; none or spent. Each has the choices made and, 02's A5, how many steps the closure of nothing settles
 pub data Outcome : Type 0 where
-  found : Marks → ℕ → ℕ → Outcome
-  none spent : ℕ → Outcome
+  found : Marks → ℕ → ℕ → ℕ → Outcome
+  none spent : ℕ → ℕ → Outcome
 
 -- "After the last failure the cheapest find is the answer, or none where there was no find."
-abbrev pub answerOf : Walked → Outcome
-answerOf (passed unfound c) = none c
-answerOf (passed (find m price) c) = found m price c
-answerOf (cut c) = spent c
+abbrev pub answerOf : ℕ → Walked → Outcome
+answerOf settled (passed unfound c) = none c settled
+answerOf settled (passed (find m price) c) = found m price c settled
+answerOf settled (cut c) = spent c settled
 
 -- whether no further choice may be made at this count: at the cap, or never
 abbrev pub capped : ℕ → ℕ → Bool
@@ -65,6 +66,10 @@ module _ (atCap : ℕ → Bool) (close : List (Literal ℕ) → Progress) (price
     ]
   ]
 
-  -- the search of nothing given: the steps are settled in this order
+  -- all that is tried from nothing chosen: the steps are settled in this order
+  abbrev pub walkAll : List ℕ → Walked
+  walkAll steps = pursue close price [] unfound 0 (walk steps)
+
+  -- the search; the steps are the variables below their number
   unfoldable pub search : List ℕ → Outcome
-  search steps = answerOf (pursue close price [] unfound 0 (walk steps))
+  search steps = answerOf (settledBelow (length steps) (close [])) (walkAll steps)

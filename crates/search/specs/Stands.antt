@@ -10,12 +10,13 @@ use Rattle.ctl.specs.Levels.{below}
 use Rattle.circuit.specs.Logic.{Literal, neg}
 use Rattle.circuit.specs.Variables.{Var, step, variableCount}
 use Rattle.closure.specs.declared.net.Net.{Net}
+use Rattle.closure.specs.declared.sweep.Closure.{Closure}
 use Rattle.closure.specs.Closure.{Marks, markAt, isKnown, known, Progress, marked, closure}
 use Rattle.closure.specs.Numbered.{numberedClauses}
 use Rattle.closure.specs.Knowledge.{Sized, levelTotal}
-use Rattle.propagate.specs.Memory.{Memory}
+use Rattle.propagate.specs.Memory.{Memory, memory}
 use Rattle.closure.specs.Inside.{literal}
-use Rattle.closure.specs.Closes.{stepKnown, Between}
+use Rattle.closure.specs.Closes.{stepKnown, Between, Closes}
 use Rattle.closure.specs.Setting.{Setting}
 use Rattle.closure.specs.Given.{Within, Consistent}
 use Rattle.search.specs.declared.best.Best.{Best as Held}
@@ -89,6 +90,11 @@ module _ (T : Table) (best : Held) (M : Memory) (bytes : List ℕ) (P : List (Li
   abbrev pub Comes : Reached → Type 0
   Comes (Ended after) = (b′ : Best) × Stores T b′ after bytes × ((cap j made : ℕ) → j ≤ length (T .steps) → searchFrom T cap j P b made ≡ passed b′ made)
   Comes (Unsettled j) = (m : Marks) × GoesOn T j M best bytes P m b × (undercuts (markPrice T m) b ≡ true)
+
+-- Of all P whose closure the rows have, whatever the words.
+abbrev pub ComesOf : Table → Closure → Held → List ℕ → List ℕ → List ℕ → Reached → Type 0
+ComesOf T c best rows bytes after r = (words : List ℕ) (P : List (Literal ℕ)) (b : Best) → Fine (length (T .steps)) P
+    → Closes T (stepLiterals P) c (memory rows words) → Stores T b best bytes → Comes T best (memory rows words) after P b r
 
 -- Of all P that the rows lie between it and its closure.
 pub record Reaches (T : Table) (best : Held) (before M : Memory) (bytes after : List ℕ) (r : Reached) : Type 0 where

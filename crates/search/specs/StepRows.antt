@@ -1,28 +1,14 @@
 -- The step rows of a closure, as the search reads and writes them.
-use Prim.Native.Nat.{ℕ, _+_}
+use Prim.Native.Nat.{ℕ}
 use mathlib.Core.Bool.{Bool, true, false, cond, not, _||_}
 use mathlib.Core.List.{List}
 use lib.Dec.{eqb}
 use lib.ListN.{length, getD, set}
 use Rattle.sets.specs.Member.{member, setOf}
-use Rattle.table.specs.declared.record.Step.{Step}
 use Rattle.table.specs.Table.{Table, stepAt}
 use Rattle.ctl.specs.Levels.{tabulate}
 use Rattle.ctl.specs.Price.{struckPrice}
-use Rattle.rows.specs.Row.{known}
-use Rattle.rows.specs.Words.{rowAt, stepPlace}
-
--- the word of the steps out of s that are known with this sign
-abbrev pub wordOf : Bool → ℕ → ℕ
-wordOf true s = stepPlace s
-wordOf false s = stepPlace s + 1
-
--- whether a step is known with this sign, and whether it is known either way
-abbrev pub stepBit : List ℕ → Bool → Step → Bool
-stepBit rows sign x = known (rowAt rows (stepPlace (x .from))) sign (x .to)
-
-abbrev pub stepSettled : List ℕ → Step → Bool
-stepSettled rows x = stepBit rows true x || stepBit rows false x
+use Rattle.rows.specs.Steps.{wordOf, stepBit, stepSettled}
 
 module _ (T : Table) (rows : List ℕ) where
   -- step j is known neither way

@@ -24,21 +24,21 @@ fn copy_front(find: &[u8], count: usize, list: &mut [u8])
 }
 
 // The cheapest find is written, where there is one and the cap was not reached.
-pub fn finish(table: &[u8], walked: Walked, find: &[u8], list: &mut [u8]) -> Outcome
+pub fn finish(table: &[u8], walked: Walked, settled: u32, find: &[u8], list: &mut [u8]) -> Outcome
     requires { ⌜ tableVerdict (now table) ≡ Accepted ⌝ }
     requires { ⌜ (length (tableOf (now table) .steps) ≤ length (now find)) × (length (tableOf (now table) .steps) ≤ length (now list)) ⌝ }
-    ensures { λ r. ⌜ r ≡ finished walked ⌝ }
+    ensures { λ r. ⌜ r ≡ finished settled walked ⌝ }
     ensures { λ _. ⌜ now (list .exit) ≡ written (length (tableOf (now (table .entry)) .steps)) walked (now (find .entry)) (now (list .entry)) ⌝ }
 {
     match walked {
         Walked::Passed(best, made) => match best {
-            Best::Unfound => Outcome::None(made),
+            Best::Unfound => Outcome::None(made, settled),
             Best::Cheapest(price) => {
                 let c = table::counts_of(table);
                 copy_front(find, c.steps, list);
-                Outcome::Found(price, made)
+                Outcome::Found(price, made, settled)
             }
         },
-        Walked::Cut(made) => Outcome::Spent(made),
+        Walked::Cut(made) => Outcome::Spent(made, settled),
     }
 }

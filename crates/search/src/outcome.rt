@@ -1,6 +1,7 @@
-// The answer of a search: what is found has its price and the choices made, none and spent the choices. The list that was found stays in its lent buffer.
+// The answer of a search: what is found has its price, and each answer the choices made and how many steps were settled before the first. The list that
+// was found stays in its lent buffer.
 pub enum Outcome {
-    Found(u32, u64),
-    None(u64),
-    Spent(u64),
+    Found(u32, u64, u32),
+    None(u64, u32),
+    Spent(u64, u32),
 }

@@ -4,14 +4,18 @@ use crate::best::undercuts;
 use crate::step_rows::lowest_unsettled;
 use crate::step_rows::struck_price;
 use crate::step_rows::write_list;
+use closure::Closure;
 use closure::Net;
+ghost use mathlib.Core.Path.{_≡_};
 ghost use Prim.Native.Nat.{_≤_};
 ghost use lib.ListN.{length};
+ghost use Rattle.table.specs.declared.refusal.Verdict.the-variants.{Accepted};
 ghost use Rattle.table.specs.Table.{tableOf};
+ghost use Rattle.table.specs.Accept.{tableVerdict};
 ghost use Rattle.closure.specs.Knowledge.{Sized};
 ghost use Rattle.propagate.specs.Memory.{memory};
 ghost use Rattle.closure.specs.Setting.{Setting};
-ghost use Rattle.search.specs.Stands.{Reaches};
+ghost use Rattle.search.specs.Stands.{ComesOf, Reaches};
 
 // The cheapest find, or the lowest step left unsettled.
 pub enum Reached {
@@ -21,6 +25,28 @@ pub enum Reached {
 
 // It fails where the closure fails, or where its struck steps cost at least as much as the cheapest find. It is a find where it settles every step, and
 // its list is written over that of the find before.
+pub fn assess(table: &[u8], rows: &[u32], closed: Closure, best: Best, find: &mut [u8]) -> Reached
+    requires { ⌜ (tableVerdict (now table) ≡ Accepted) × (length (now rows) ≡ 130) ⌝ }
+    requires { ⌜ length (tableOf (now table) .steps) ≤ length (now find) ⌝ }
+    ensures { λ r. ⌜ ComesOf (tableOf (now (table .entry))) closed best (now (rows .entry)) (now (find .entry)) (now (find .exit)) r ⌝ }
+{
+    if closed.fails {
+        return Reached::Ended(best);
+    }
+    let price = struck_price(table, rows);
+    if undercuts(price, best) {
+        let j = lowest_unsettled(table, rows);
+        let counts = table::counts_of(table);
+        if j < counts.steps {
+            return Reached::Unsettled(j);
+        }
+        write_list(table, rows, find);
+        return Reached::Ended(Best::Cheapest(price));
+    }
+    Reached::Ended(best)
+}
+
+// Works out the closure, and what it comes to.
 pub fn reach(
     table: &[u8],
     net: Net,
@@ -36,19 +62,6 @@ pub fn reach(
     requires { ⌜ length (tableOf (now table) .steps) ≤ length (now find) ⌝ }
     ensures { λ r. ⌜ Reaches (tableOf (now (table .entry))) best (memory (now (rows .entry)) (now (words .entry))) (memory (now (rows .exit)) (now (words .exit))) (now (find .entry)) (now (find .exit)) r ⌝ }
 {
-    let c = closure::close(table, net, targets, bases, rows, words);
-    if c.fails {
-        return Reached::Ended(best);
-    }
-    let price = struck_price(table, rows);
-    if undercuts(price, best) {
-        let j = lowest_unsettled(table, rows);
-        let counts = table::counts_of(table);
-        if j < counts.steps {
-            return Reached::Unsettled(j);
-        }
-        write_list(table, rows, find);
-        return Reached::Ended(Best::Cheapest(price));
-    }
-    Reached::Ended(best)
+    let closed = closure::close(table, net, targets, bases, rows, words);
+    assess(table, rows, closed, best, find)
 }

@@ -5,43 +5,64 @@ use crate::choices::Choices;
 use crate::finish::finish;
 use crate::outcome::Outcome;
 use crate::reach::Reached;
-use crate::reach::reach;
+use crate::reach::assess;
 use crate::tries::kept;
 use crate::words::zero;
+use closure::Closure;
 use closure::Net;
 ghost use mathlib.Core.Path.{_≡_};
 ghost use mathlib.Core.List.{[]};
 ghost use Prim.Native.Nat.{ℕ, _≤_};
-ghost use lib.ListN.{length, getD};
+ghost use lib.ListN.{length, getD, replicate};
 ghost use Rattle.table.specs.Table.{tableOf};
-ghost use Rattle.closure.specs.Knowledge.{levelTotal};
+ghost use Rattle.propagate.specs.Memory.{memory};
+ghost use Rattle.closure.specs.Knowledge.{Sized, levelTotal};
+ghost use Rattle.closure.specs.Closes.{Closes};
 ghost use Rattle.closure.specs.Setting.{Setting};
 ghost use Rattle.search.specs.Search.{unfound};
 ghost use Rattle.search.specs.TableSearch.{searchUnder};
 ghost use Rattle.search.specs.Answer.{outcomeOf, listAfter};
 ghost use Rattle.search.specs.Finds.{Gives};
-ghost use Rattle.search.specs.Stands.{searchFrom};
+ghost use Rattle.search.specs.Stands.{Handed, searchFrom};
 
-// All of the search: what is tried from nothing chosen, with no level known. The list of the cheapest find is left in `find`.
+// The closure of nothing, with no step and no level known at first.
+fn close_nothing(
+    table: &[u8],
+    net: Net,
+    targets: &[u32],
+    bases: &[usize],
+    rows: &mut [u32],
+    words: &mut [u32],
+) -> Closure
+    requires { ⌜ Setting (now table) net (now targets) (now bases) ⌝ }
+    requires { ⌜ now rows ≡ replicate 130 0 ⌝ }
+    requires { ⌜ length (now words) ≡ levelTotal (tableOf (now table)) ⌝ }
+    ensures { λ r. ⌜ Sized (tableOf (now (table .entry))) (memory (now (rows .exit)) (now (words .exit))) ⌝ }
+    ensures { λ r. ⌜ Closes (tableOf (now (table .entry))) [] r (memory (now (rows .exit)) (now (words .exit))) ⌝ }
+{
+    zero(words);
+    closure::close(table, net, targets, bases, rows, words)
+}
+
+// All of the search: what is tried from the closure of nothing. The list of the cheapest find is left in `find`.
 fn walk_table(
     table: &[u8],
     net: Net,
     targets: &[u32],
     bases: &[usize],
+    rows: [u32; 130],
+    closed: Closure,
     cap: u64,
     find: &mut [u8],
     words: &mut [u32],
 ) -> Walked
-    requires { ⌜ Setting (now table) net (now targets) (now bases) ⌝ }
-    requires { ⌜ length (now words) ≡ levelTotal (tableOf (now table)) ⌝ }
-    requires { ⌜ length (tableOf (now table) .steps) ≤ length (now find) ⌝ }
+    requires { ⌜ Handed (now table) net (now targets) (now bases) rows (now words) (now find) ⌝ }
+    requires { ⌜ Closes (tableOf (now table)) [] closed (memory rows (now words)) ⌝ }
     ensures { λ r. ⌜ Gives (tableOf (now (table .entry))) (searchFrom (tableOf (now (table .entry))) cap 0 [] unfound 0) (now (find .exit)) r ⌝ }
 {
     let none = Best::Unfound;
     let count = Choices { made: 0, cap };
-    let mut rows = [0u32; 130];
-    zero(words);
-    match reach(table, net, targets, bases, &mut rows, none, find, words) {
+    match assess(table, &rows, closed, none, find) {
         Reached::Ended(best) => Walked::Passed(best, 0),
         Reached::Unsettled(j) => kept(
             table,
@@ -79,7 +100,20 @@ pub fn search_table(
     ensures { λ _. ⌜ ((k : ℕ) → levelTotal (tableOf (now (table .entry))) ≤ k → getD (now (words .exit)) k 0 ≡ getD (now (words .entry)) k 0) ⌝ }
 {
     let mut find = [0u8; 128];
+    let mut rows = [0u32; 130];
     let part = &mut words[..levels];
-    let walked = walk_table(table, net, targets, bases, cap, &mut find, part);
-    finish(table, walked, &find, list)
+    let closed = close_nothing(table, net, targets, bases, &mut rows, part);
+    let settled = closed.settled;
+    let walked = walk_table(
+        table,
+        net,
+        targets,
+        bases,
+        rows,
+        closed,
+        cap,
+        &mut find,
+        part,
+    );
+    finish(table, walked, settled, &find, list)
 }

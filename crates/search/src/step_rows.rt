@@ -1,4 +1,7 @@
-// The step rows of a closure: what is known of each step.
+// The step rows of a closure, read and written step by step.
+use rows::is_known;
+use rows::is_settled;
+use rows::word_of;
 use table::Step;
 ghost use mathlib.Core.Path.{_≡_};
 ghost use mathlib.Core.Bool.{false, cond};
@@ -9,38 +12,8 @@ ghost use Rattle.sets.specs.Member.{lowestOf};
 ghost use Rattle.table.specs.declared.refusal.Verdict.the-variants.{Accepted};
 ghost use Rattle.table.specs.Table.{tableOf};
 ghost use Rattle.table.specs.Accept.{tableVerdict};
-ghost use Rattle.search.specs.StepRows.{wordOf, stepBit, stepSettled, isUnsettled, rowsPrice, keptBytes, withStep};
-
-// The word of the steps out of s that are kept, or of those that are struck.
-fn word_of(s: usize, kept: bool) -> usize
-    requires { ⌜ s < 32 ⌝ }
-    ensures { λ r. ⌜ r ≡ wordOf kept s ⌝ }
-{
-    if kept {
-        return 2 * s;
-    }
-    2 * s + 1
-}
-
-// Whether the step is known kept, or known struck.
-fn is_known(rows: &[u32], x: Step, kept: bool) -> bool
-    requires { ⌜ (x .from < 32) × (length (now rows) ≡ 130) ⌝ }
-    ensures { λ r. ⌜ r ≡ stepBit (now (rows .entry)) kept x ⌝ }
-{
-    let at = word_of(x.from, kept);
-    sets::contains(rows[at], x.to)
-}
-
-// Whether the step is known either way.
-fn is_settled(rows: &[u32], x: Step) -> bool
-    requires { ⌜ (x .from < 32) × (length (now rows) ≡ 130) ⌝ }
-    ensures { λ r. ⌜ r ≡ stepSettled (now (rows .entry)) x ⌝ }
-{
-    if is_known(rows, x, true) {
-        return true;
-    }
-    is_known(rows, x, false)
-}
+ghost use Rattle.rows.specs.Steps.{stepBit};
+ghost use Rattle.search.specs.StepRows.{isUnsettled, rowsPrice, keptBytes, withStep};
 
 // The lowest step that is known neither way, or the number of steps.
 pub fn lowest_unsettled(table: &[u8], rows: &[u32]) -> usize

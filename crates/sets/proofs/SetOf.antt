@@ -4,6 +4,7 @@ use mathlib.Core.Bool.{Bool, true, false, cond, _&&_, false≢true, and-eq-true-
 use mathlib.Core.Logic.{_↔_}
 use Prim.Native.Nat.{ℕ, zero, suc, _+_, _*_, _/_, _%_, _^_, _≤_, _<_, zero-le}
 use native.Mathlib.Nat.{pow-suc, mod-lt, zero-lt-suc, not-suc-le-zero, le-of-suc-le-suc, lt-of-not-le}
+use native.Mathlib.Numerals.{add-one}
 use native.Mathlib.Decide.{ℕ-discrete}
 use native.Mathlib.Omega.{arith}
 use borrow.Author.Tests.{lt-ltb, ltb-true}
@@ -89,6 +90,11 @@ countOf-low (suc n) f =
     let low : countOf (suc n) f ≡ cond (f zero) 1 0 + countOf n (λ s. f (suc s)) = countOf-low n f in
     omega arith
 
+-- one state more
+pub countOf-next : (n : ℕ) (f : ℕ → Bool) → countOf (n + 1) f ≡ countOf n f + cond (f n) 1 0
+unfolding countOf
+countOf-next n f = ap (λ (k : ℕ). countOf k f) (add-one n)
+
 -- properties that agree below n have as many states
 pub countOf-cong : (n : ℕ) (f g : ℕ → Bool) → ((s : ℕ) → s < n → f s ≡ g s) → countOf n f ≡ countOf n g
 unfolding countOf
@@ -120,7 +126,8 @@ module _ (f g : ℕ → Bool) where
       go (yes e) rest less = rw (sym (ap f e) ∙ yes-f, sym (ap g e) ∙ no-g) (omega arith)
       go (no d) rest less = omega (arith, less (omega arith), one-le (g n) (f n) (sub n (omega arith)))
 
-countOf-le : (w : ℕ) (f : ℕ → Bool) → countOf w f ≤ w
+-- no more than there are
+pub countOf-le : (w : ℕ) (f : ℕ → Bool) → countOf w f ≤ w
 unfolding countOf
 countOf-le zero f = zero-le
 countOf-le (suc w) f = go (f w) (countOf-le w f)

@@ -2,9 +2,10 @@
 use Prim.Native.Nat.{ℕ}
 use mathlib.Core.Path.{_≡_, refl, sym}
 use mathlib.Core.Logic.{_⊎_, inl, inr}
-use mathlib.Core.Bool.{Bool, true, false, _&&_, _||_, true≢false, false≢true}
+use mathlib.Core.Bool.{Bool, true, false, cond, _&&_, _||_, true≢false, false≢true}
 use borrow.Author.Tests.{eqb-true, eq-eqb}
 use lib.Dec.{eqb}
+use mir.Val.{boolByte}
 
 -- the two parts of a test that holds, and back
 pub and-parts : (a b : Bool) → a && b ≡ true → (a ≡ true) × (b ≡ true)
@@ -32,6 +33,11 @@ or-right false b q = q
 pub or-neither : (a b : Bool) → a || b ≡ false → (a ≡ false) × (b ≡ false)
 or-neither true b e = absurd (true≢false e)
 or-neither false b e = (refl, e)
+
+-- a flag as a byte
+pub flag-byte : (b : Bool) → boolByte b ≡ cond b 1 0
+flag-byte true = refl
+flag-byte false = refl
 
 -- a test that is not true is false
 pub not-so : (b : Bool) → ¬ (b ≡ true) → b ≡ false

@@ -93,8 +93,8 @@ impl Calls {
         let mut list = Lent::<u8>::junk(random, "list", rooms.list);
         let mut bytes = Lent::<u8>::junk(random, "bytes", rooms.bytes);
         let mut words = Lent::<u32>::junk(random, "words", rooms.words);
-        let before = (random.next(), random.next() as u32);
-        let (mut choices, mut price) = before;
+        let before = (random.next(), random.next() as u32, random.next() as u32);
+        let (mut choices, mut price, mut settled) = before;
         let wanted = wanted::repair(table, rooms, search);
         if let Ok(answer) = &wanted {
             list.want(&answer.list);
@@ -102,12 +102,12 @@ impl Calls {
             words.want(&vec![0; v]);
         }
         let (number, stored) = match &wanted {
-            Ok(answer) => (answer.number, (answer.choices, answer.price)),
+            Ok(answer) => (answer.number, (answer.choices, answer.price, answer.settled)),
             Err(refusal) => (*refusal, before),
         };
-        let got = fitter::repair(t.part(), cap, list.part(), bytes.part(), words.part(), &mut choices, &mut price);
+        let got = fitter::repair(t.part(), cap, list.part(), bytes.part(), words.part(), &mut choices, &mut price, &mut settled);
         let compared = same("number", got, number)
-            .and_then(|()| same("choices and price", (choices, price), stored))
+            .and_then(|()| same("choices, price and settled steps", (choices, price, settled), stored))
             .and_then(|()| list.check())
             .and_then(|()| bytes.check())
             .and_then(|()| words.check())

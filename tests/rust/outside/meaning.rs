@@ -157,13 +157,23 @@ pub fn price(table: &Table, kept: &[bool]) -> u32 {
     table.prices.iter().zip(kept).filter(|(_, &kept)| !kept).map(|(price, _)| price).sum()
 }
 
+// Every list there is, from the first in rank to the last.
+fn lists(table: &Table) -> impl Iterator<Item = Vec<bool>> {
+    let e = table.steps.len();
+    (0..1usize << e).rev().map(move |number| (0..e).map(|j| number >> (e - 1 - j) & 1 == 1).collect())
+}
+
 // Of all repairs in one of these senses the cheapest, and of equal prices the one that ranks first, by trying every list in this order.
 pub fn cheapest(table: &Table, is_repair: fn(&Table, &[bool]) -> bool) -> Option<Vec<u8>> {
-    let e = table.steps.len();
-    let list = |number: usize| -> Vec<bool> { (0..e).map(|j| number >> (e - 1 - j) & 1 == 1).collect() };
-    // from the first in rank to the last, and sorting keeps this order where prices are equal
-    let mut numbers: Vec<usize> = (0..1 << e).rev().collect();
-    numbers.sort_by_cached_key(|&number| price(table, &list(number)));
-    let found = numbers.into_iter().map(list).find(|kept| is_repair(table, kept))?;
+    let mut lists: Vec<Vec<bool>> = lists(table).collect();
+    // sorting keeps the order of rank where prices are equal
+    lists.sort_by_cached_key(|kept| price(table, kept));
+    let found = lists.into_iter().find(|kept| is_repair(table, kept))?;
     Some(found.iter().map(|&k| k as u8).collect())
+}
+
+// How many steps all repairs in 01's sense keep, or all strike. Without a repair these are all steps.
+pub fn alike(table: &Table) -> usize {
+    let repairs: Vec<Vec<bool>> = lists(table).filter(|kept| repair(table, kept)).collect();
+    (0..table.steps.len()).filter(|&j| repairs.windows(2).all(|two| two[0][j] == two[1][j])).count()
 }

@@ -1,6 +1,8 @@
 // Repair on an accepted table, at several caps and with several buffers. Small tables are also tried by every list there is.
 use crate::calls::{hex, Calls};
 use crate::clauses;
+use crate::closure;
+use crate::draw;
 use crate::meaning;
 use crate::random::Random;
 use crate::striking;
@@ -9,6 +11,9 @@ use crate::wanted::Rooms;
 
 // Choices times variables that one search may cost.
 const EFFORT: usize = 2_000_000;
+
+// The largest net that is always closed word for word. A larger one is closed now and then, since that takes long.
+const MOST_CLOSED: usize = 20_000;
 
 // Enough, one more, much more, one too few or none.
 pub fn room(random: &mut Random, needed: usize) -> usize {
@@ -76,6 +81,33 @@ fn means(table: &Table, answer: &clauses::Answer) -> Result<(), String> {
     Ok(())
 }
 
+// How many steps an answer may have as settled, where some choices were allowed. With no choice made it is all of them for found, and 0 for none,
+// since the closure failed. Else there was one to choose; those that no total list keeps are settled, and the settled ones are alike in all repairs.
+fn settled_fits(table: &Table, answer: &clauses::Answer) -> bool {
+    let (e, settled) = (table.steps.len(), answer.settled as usize);
+    if answer.choices == 0 {
+        return settled == if answer.number == 0 { e } else { 0 };
+    }
+    let mut total = vec![1; e];
+    draw::prune(table, &mut total);
+    let least = total.iter().filter(|&&kept| kept == 0).count();
+    (least..e).contains(&settled) && (e > 10 || settled <= meaning::alike(table))
+}
+
+// The settled steps are as many as they may be and as the closure of nothing has, word for word.
+fn settles(random: &mut Random, table: &Table, v: usize, answer: &clauses::Answer) -> Result<(), String> {
+    if !settled_fits(table, answer) {
+        return Err(format!("so many steps can't be settled: {answer:?}"));
+    }
+    if v <= MOST_CLOSED || random.once_in(10) {
+        let settled = closure::settled(table);
+        if settled != answer.settled {
+            return Err(format!("{settled} steps are settled, by the plain search {}", answer.settled));
+        }
+    }
+    Ok(())
+}
+
 // Gives the list that is written, and the one before striking; nothing where none is found.
 pub fn compare(calls: &mut Calls, random: &mut Random, bytes: &[u8], table: &Table) -> Result<Vec<Vec<u8>>, String> {
     let (e, v) = (table.steps.len(), variables(table));
@@ -85,10 +117,12 @@ pub fn compare(calls: &mut Calls, random: &mut Random, bytes: &[u8], table: &Tab
     }
     let limit = (EFFORT / v).clamp(4, 3000) as u64;
     let answer = clauses::search(&net, limit);
-    means(table, &answer).map_err(|difference| format!("repair: {difference}\ntable {}", hex(bytes)))?;
+    let right = means(table, &answer).and_then(|()| settles(random, table, v, &answer));
+    right.map_err(|difference| format!("repair: {difference}\ntable {}", hex(bytes)))?;
     for cap in caps(random, &answer, limit) {
         let rooms = rooms(random, e, v);
-        calls.repair(random, bytes, cap, rooms, v, || clauses::search(&net, cap))?;
+        // the settled steps are the same under every cap
+        calls.repair(random, bytes, cap, rooms, v, || clauses::Answer { settled: answer.settled, ..clauses::search(&net, cap) })?;
     }
     if answer.number != 0 {
         return Ok(vec![]);

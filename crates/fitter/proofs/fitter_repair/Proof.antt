@@ -1,9 +1,9 @@
--- `fitter_repair` meets its contract: Repair's buffers, and its answer taken apart into a number, the choices and the price.
+-- `fitter_repair` meets its contract: Repair's buffers, and its answer taken apart into a number, the choices, the price and the settled steps.
 use mathlib.Core.Path.{ap, _∙_}
 use denote.Ref.{now}
 use Rattle.repair.specs.declared.answer.Answer.{Answer}
 use Rattle.repair.specs.Answer.{answerNumber}
-use Rattle.fitter.specs.Exports.{repairChoices, repairPrice}
+use Rattle.fitter.specs.Exports.{repairChoices, repairPrice, repairSettled}
 use borrow.Author.Needs.{needs}
 use Rattle.fitter.proofs.fitter_repair.Statement.{statement}
 use Rattle.fitter.proofs.fitter_repair.Tie as tie
@@ -25,18 +25,25 @@ same-length-3 c = search needs
 
 returns : tie.Need-returns
 returns c =
-    let ran = c .before .before .before .before .before .before .before .before .before in
+    let ran = c .before .before .before .before .before .before .before .before .before .before in
     let gave = ran .repair .ensures in
     let a = ran .before .before .before .before .before .before .before .before .args in
     let choices = now (a .choices) in
     let price = now (a .price) in
+    let settled = now (a .settled) in
     let stored = c .store-answer .ensures in (
       stored .0 ∙ ap answerNumber (gave .0),
       (
         gave .1 .0,
         (
           gave .1 .1 .0,
-          (gave .1 .1 .1, (stored .1 .0 ∙ ap (λ (x : Answer). repairChoices x choices) (gave .0), stored .1 .1 ∙ ap (λ (x : Answer). repairPrice x price) (gave .0))),
+          (
+            gave .1 .1 .1,
+            (
+              stored .1 .0 ∙ ap (λ (x : Answer). repairChoices x choices) (gave .0),
+              (stored .1 .1 .0 ∙ ap (λ (x : Answer). repairPrice x price) (gave .0), stored .1 .1 .1 ∙ ap (λ (x : Answer). repairSettled x settled) (gave .0)),
+            ),
+          ),
         ),
       ),
     )

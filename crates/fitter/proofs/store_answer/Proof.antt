@@ -1,20 +1,21 @@
 -- `store_answer` meets its contract, case by case of the answer.
-use mathlib.Core.Path.{_≡_, refl, sym, ap, _∙_}
+use mathlib.Core.Path.{_≡_, refl, sym, subst}
 use Prim.Native.Nat.{ℕ}
 use denote.Ref.{now}
 use borrow.Author.Needs.{needs}
 use Rattle.repair.specs.declared.answer.Answer.{Answer}
 use Rattle.repair.specs.Answer.{answerNumber}
-use Rattle.fitter.specs.Exports.{repairChoices, repairPrice}
+use Rattle.fitter.specs.Exports.{repairChoices, repairPrice, repairSettled}
 use Rattle.fitter.proofs.store_answer.Statement.{statement}
 use Rattle.fitter.proofs.store_answer.Tie as tie
 
--- what is answered and held where the answer is b, for an answer that was told to be b
-told-so : (a b : Answer) (choices price : ℕ) → a ≡ b → {number held reported : ℕ}
-    → number ≡ answerNumber b → held ≡ repairChoices b choices → reported ≡ repairPrice b price
-    → (number ≡ answerNumber a) × ((held ≡ repairChoices a choices) × (reported ≡ repairPrice a price))
-told-so a b choices price is n h r =
-    (n ∙ sym (ap answerNumber is), (h ∙ sym (ap (λ (x : Answer). repairChoices x choices) is), r ∙ sym (ap (λ (x : Answer). repairPrice x price) is)))
+-- what is answered and held: of the pointers first what was there before the call, then what is there after it
+abbrev Held : ℕ → ℕ → ℕ → ℕ → ℕ → ℕ → ℕ → Answer → Type 0
+Held choices price settled number c p k a = (number ≡ answerNumber a) × ((c ≡ repairChoices a choices) × ((p ≡ repairPrice a price) × (k ≡ repairSettled a settled)))
+
+-- for an answer that was told to be b
+told-so : (choices price settled : ℕ) {number c p k : ℕ} (a b : Answer) → a ≡ b → Held choices price settled number c p k b → Held choices price settled number c p k a
+told-so choices price settled a b is = subst (Held choices price settled _ _ _ _) (sym is)
 
 enum-known-answer : tie.Need-enum-known-answer
 enum-known-answer c = search needs
@@ -42,27 +43,27 @@ refusal-number-requires c κs = search needs
 
 returns : tie.Need-returns
 returns c =
-    let told = c .before .before .before .before in
+    let told = c .before .before .before .before .before in
     let a = told .before .before .args in
-    told-so (a .answer) _ (now (a .choices)) (now (a .price)) (told .answer .given .1) (c .store .ensures .0) (c .store .ensures .1 .0) (c .store .ensures .1 .1)
+    told-so (now (a .choices)) (now (a .price)) (now (a .settled)) (a .answer) _ (told .answer .given .1) (c .store .ensures)
 
 returns-2 : tie.Need-returns-2
 returns-2 c =
-    let told = c .before .before .before .before in
+    let told = c .before .before .before .before .before in
     let a = told .before .before .args in
-    told-so (a .answer) _ (now (a .choices)) (now (a .price)) (told .answer2 .given .1) (c .store2 .ensures .0) (c .store2 .ensures .1 .0) (c .store2 .ensures .1 .1)
+    told-so (now (a .choices)) (now (a .price)) (now (a .settled)) (a .answer) _ (told .answer2 .given .1) (c .store2 .ensures)
 
 returns-3 : tie.Need-returns-3
 returns-3 c =
-    let told = c .before .before .before .before in
+    let told = c .before .before .before .before .before in
     let a = told .before .before .args in
-    told-so (a .answer) _ (now (a .choices)) (now (a .price)) (told .answer3 .given .1) (c .store3 .ensures .0) (c .store3 .ensures .1 .0) (c .store3 .ensures .1 .1)
+    told-so (now (a .choices)) (now (a .price)) (now (a .settled)) (a .answer) _ (told .answer3 .given .1) (c .store3 .ensures)
 
 returns-4 : tie.Need-returns-4
 returns-4 c =
     let told = c .before .before in
     let a = told .before .before .args in
-    told-so (a .answer) _ (now (a .choices)) (now (a .price)) (told .answer4 .given .1) (c .refusal-number .ensures) refl refl
+    told-so (now (a .choices)) (now (a .price)) (now (a .settled)) (a .answer) _ (told .answer4 .given .1) (c .refusal-number .ensures, (refl, (refl, refl)))
 
 pub store-answer-spec : {M : Type 1} → statement M
 store-answer-spec =

@@ -72,16 +72,30 @@ returns c =
     let T = tableOf (now (c .before .before .before .before .before .before .before .before .before .before .before .before .before .before .args .table)) in
     closed-failing T (c .before .before .before .before .before .before .before .before .loop .inv .0) (went (c .before .before .before .before .before)) (c .if1 .taken)
 
+settled-steps-requires : tie.Need-settled-steps-requires Inv-loop μ-loop
+settled-steps-requires c κs =
+    let sweep = c .before .before .before .before .before .before .before .before in
+    let start = sweep .before .before .before .before .before .before .before .before .before in
+    (start .pre .0 .accepted, went sweep .sized .rows-size)
+
 same-length-3 : tie.Need-same-length-3 Inv-loop μ-loop
-same-length-3 c = c .before .before .before .before .before .before .before .sweep-once .kept .1 .1 .1 .1 .0 ∙ c .before .before .before .before .before .before .before .before .before .before .loop .inv .0 .sized .rows-size ∙ sym (c .before .before .before .before .before .before .before .before .before .before .before .before .before .before .before .before .pre .1 .rows-size)
+same-length-3 c =
+    let sweep = c .before .before .before .before .before .before .before .before .before in
+    let start = sweep .before .before .before .before .before .before .before .before .before in
+    went sweep .sized .rows-size ∙ sym (start .pre .1 .rows-size)
 
 same-length-4 : tie.Need-same-length-4 Inv-loop μ-loop
-same-length-4 c = c .before .before .before .before .before .before .before .sweep-once .kept .1 .1 .1 .1 .1 .0 ∙ c .before .before .before .before .before .before .before .before .before .before .loop .inv .0 .same-words-length
+same-length-4 c =
+    let sweep = c .before .before .before .before .before .before .before .before .before in
+    went sweep .same-words-length ∙ sweep .before .before .before .loop .inv .0 .same-words-length
 
 returns-2 : tie.Need-returns-2 Inv-loop μ-loop
 returns-2 c =
-    let start = c .before .before .before .before .before .before .before .before .before .before .before .before .before .before .before .before in
-    closed-resting (tableOf (now (start .args .table))) (wellformed (start .pre .0)) (c .before .before .before .before .before .before .before .before .before .before .loop .inv .0) (went (c .before .before .before .before .before .before .before)) (c .before .before .if1 .left) (not-true _ (c .if2 .taken))
+    let rests = c .before .before in
+    let sweep = rests .before .before .before .before .before .before .before in
+    let start = sweep .before .before .before .before .before .before .before .before .before in
+    closed-resting (tableOf (now (start .args .table))) (wellformed (start .pre .0)) (c .settled-steps .result) (sweep .before .before .before .loop .inv .0) (went sweep)
+    (rests .before .before .if1 .left) (not-true _ (rests .if2 .taken)) (c .settled-steps .ensures)
 
 loop-less : tie.Need-loop-less Inv-loop μ-loop
 loop-less c =
@@ -116,6 +130,7 @@ close-spec =
     same-length
     same-length-2
     returns
+    settled-steps-requires
     same-length-3
     same-length-4
     returns-2

@@ -138,7 +138,7 @@ returns c =
     let list = now (start .args .list) in
     let told = sym (counts .before .before .price .given .1) ∙ gave .search-table .ensures .0 in
     let struck = c .before .before .strike-unreached in
-    (ap carried told, (after-found T list _ (searchUnder T (start .args .cap)) _ _ (counts .counts-of .result .steps) told (gave .search-table .ensures .1 .0) (steps-count counts) (struck .last .1 .1 .0) (struck .ensures), beyond gave))
+    (ap carried told, (after-found T list _ (searchUnder T (start .args .cap)) _ _ _ (counts .counts-of .result .steps) told (gave .search-table .ensures .1 .0) (steps-count counts) (struck .last .1 .1 .0) (struck .ensures), beyond gave))
 
 same-length-3 : tie.Need-same-length-3
 same-length-3 c = search needs
@@ -153,7 +153,7 @@ returns-2 c =
     let T = tableOf (now (start .args .table)) in
     let list = now (start .args .list) in
     let told = sym (c .before .c .given .1) ∙ gave .search-table .ensures .0 in
-    (ap carried told, (after-none T list _ (searchUnder T (start .args .cap)) _ told (gave .search-table .ensures .1 .0), beyond gave))
+    (ap carried told, (after-none T list _ (searchUnder T (start .args .cap)) _ _ told (gave .search-table .ensures .1 .0), beyond gave))
 
 same-length-5 : tie.Need-same-length-5
 same-length-5 c = search needs
@@ -168,7 +168,7 @@ returns-3 c =
     let T = tableOf (now (start .args .table)) in
     let list = now (start .args .list) in
     let told = sym (c .before .c2 .given .1) ∙ gave .search-table .ensures .0 in
-    (ap carried told, (after-spent T list _ (searchUnder T (start .args .cap)) _ told (gave .search-table .ensures .1 .0), beyond gave))
+    (ap carried told, (after-spent T list _ (searchUnder T (start .args .cap)) _ _ told (gave .search-table .ensures .1 .0), beyond gave))
 
 pub run-spec : {M : Type 1} → statement M
 run-spec =

@@ -1,17 +1,13 @@
 -- `finish` meets its contract.
 use Prim.Native.Nat.{ℕ}
 use mathlib.Core.Path.{_≡_, sym, ap, _∙_}
-use mathlib.Core.List.{List}
 use native.Mathlib.Omega.{arith}
 use borrow.Author.Needs.{needs}
 use lib.ListN.{length}
 use denote.Ref.{now}
-use Rattle.table.specs.declared.counts.Counts.{Counts}
 use Rattle.table.specs.Buffer.{over}
-use Rattle.table.specs.declared.refusal.Verdict.the-variants.{Accepted}
-use Rattle.table.specs.Table.{countsOf, tableOf}
-use Rattle.table.specs.Accept.{tableVerdict}
-use Rattle.table.proofs.Accepted.{accepted}
+use Rattle.table.specs.Table.{tableOf}
+use Rattle.table.proofs.Accepted.{steps-are}
 use Rattle.search.specs.declared.best.Best.{Best}
 use Rattle.search.specs.declared.best.Best.the-variants.{Unfound, Cheapest}
 use Rattle.search.specs.declared.best.Walked.{Walked}
@@ -19,10 +15,6 @@ use Rattle.search.specs.declared.best.Walked.the-variants.{Passed}
 use Rattle.search.specs.Finds.{finished, written}
 use Rattle.search.proofs.finish.finish.Statement.{statement}
 use Rattle.search.proofs.finish.finish.Tie as tie
-
--- the count that is read is that of the table's steps
-steps-of : (table : List ℕ) → tableVerdict table ≡ Accepted → (c : Counts) → c ≡ countsOf table → c .steps ≡ length (tableOf table .steps)
-steps-of table accept c read = ap (λ (k : Counts). k .steps) read ∙ sym (accepted table accept .steps-count)
 
 enum-known-walked : tie.Need-enum-known-walked
 enum-known-walked c = search needs
@@ -39,7 +31,7 @@ counts-of-requires c κs = search needs
 copy-front-requires : tie.Need-copy-front-requires
 copy-front-requires c κs =
     let s = c .before .before .before .before .before .before .before .before .before .before .before in
-    let e = steps-of (now (s .args .table)) (s .pre .0) (c .before .counts-of .result) (c .before .counts-of .ensures) in
+    let e = steps-are (now (s .args .table)) (c .before .counts-of .result) (c .before .counts-of .ensures) in
     (omega (arith, s .pre .1 .0), omega (arith, s .pre .1 .1))
 
 enum-known-walked-2 : tie.Need-enum-known-walked-2
@@ -50,7 +42,7 @@ returns c =
     let walked = c .before .before .before in
     let a = walked .before .before .before .before .before .args in
     let w : a .walked ≡ Passed Unfound (walked .walked .given .0 .1 .0) = walked .walked .given .1 ∙ ap (λ (b : Best). Passed b (walked .walked .given .0 .1 .0)) (c .enum-told .given .1) in
-    (sym (ap finished w), sym (ap (λ (x : Walked). written (length (tableOf (now (a .table)) .steps)) x (now (a .find)) (now (a .list))) w))
+    (sym (ap (finished (a .settled)) w), sym (ap (λ (x : Walked). written (length (tableOf (now (a .table)) .steps)) x (now (a .find)) (now (a .list))) w))
 
 same-length : tie.Need-same-length
 same-length c = search needs
@@ -66,8 +58,8 @@ returns-2 c =
     let made = walked .walked .given .0 .1 .0 in
     let price = best .best .given .0 .0 in
     let w : a .walked ≡ Passed (Cheapest price) made = walked .walked .given .1 ∙ ap (λ (b : Best). Passed b made) (best .best .given .1) in
-    let e = steps-of (now (a .table)) (s .pre .0) (counts .counts-of .result) (counts .counts-of .ensures) in (
-      sym (ap finished w),
+    let e = steps-are (now (a .table)) (counts .counts-of .result) (counts .counts-of .ensures) in (
+      sym (ap (finished (a .settled)) w),
       copy .copy-front .ensures
           ∙ ap (λ (k : ℕ). over k (now (a .find)) (now (a .list))) e
           ∙ sym (ap (λ (x : Walked). written (length (tableOf (now (a .table)) .steps)) x (now (a .find)) (now (a .list))) w),
@@ -77,7 +69,7 @@ returns-3 : tie.Need-returns-3
 returns-3 c =
     let a = c .before .before .before .before .before .before .args in
     let w = c .before .walked2 .given .1 in
-    (sym (ap finished w), sym (ap (λ (x : Walked). written (length (tableOf (now (a .table)) .steps)) x (now (a .find)) (now (a .list))) w))
+    (sym (ap (finished (a .settled)) w), sym (ap (λ (x : Walked). written (length (tableOf (now (a .table)) .steps)) x (now (a .find)) (now (a .list))) w))
 
 pub finish-spec : {M : Type 1} → statement M
 finish-spec =

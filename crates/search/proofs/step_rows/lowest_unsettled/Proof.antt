@@ -7,11 +7,11 @@ use borrow.Author.Needs.{needs}
 use borrow.Author.Count.{below-none, below-more}
 use lib.ListN.{length}
 use denote.Ref.{now}
-use Rattle.table.specs.declared.counts.Counts.{Counts}
 use Rattle.table.specs.declared.record.Step.{Step}
 use Rattle.table.specs.Table.{tableOf}
-use Rattle.table.proofs.Accepted.{accepted, read-step}
-use Rattle.search.specs.StepRows.{stepSettled, isUnsettled}
+use Rattle.table.proofs.Accepted.{accepted, steps-are, read-step}
+use Rattle.rows.specs.Steps.{stepSettled}
+use Rattle.search.specs.StepRows.{isUnsettled}
 use Rattle.search.proofs.Lowest.{lowest-here, lowest-nowhere}
 use Rattle.search.proofs.step_rows.lowest_unsettled.Statement.{statement}
 use Rattle.search.proofs.step_rows.lowest_unsettled.Tie as tie
@@ -33,7 +33,7 @@ loop-holds c =
     let s = c .before .before .before .before in
     let table = now (s .args .table) in (
       zero-le,
-      ap (λ (k : Counts). k .steps) (c .before .counts-of .ensures) ∙ sym (accepted table (s .pre .0) .steps-count),
+      steps-are table (c .before .counts-of .result) (c .before .counts-of .ensures),
       below-none (λ i. isUnsettled (tableOf table) (now (s .args .rows)) i ≡ false),
     )
 

@@ -7,14 +7,13 @@ use native.Mathlib.Omega.{arith}
 use borrow.Author.Needs.{needs}
 use lib.ListN.{length}
 use denote.Ref.{now}
-use Rattle.table.specs.declared.counts.Counts.{Counts}
 use Rattle.table.specs.declared.record.Step.{Step}
 use Rattle.table.specs.Table.{tableOf, stepAt}
-use Rattle.table.proofs.Accepted.{accepted, ReadStep, read-step}
+use Rattle.table.proofs.Accepted.{accepted, steps-are, ReadStep, read-step}
 use Rattle.table.proofs.Bytes.{price-byte}
 use Rattle.ctl.specs.Price.{sumBelow}
 use Rattle.ctl.proofs.Price.{sum-next, cond-most}
-use Rattle.search.specs.StepRows.{stepBit}
+use Rattle.rows.specs.Steps.{stepBit}
 use Rattle.search.proofs.step_rows.struck_price.Statement.{statement}
 use Rattle.search.proofs.step_rows.struck_price.Tie as tie
 
@@ -40,7 +39,7 @@ unfolding sumBelow
 loop-holds c =
     let s = c .before .before .before .before in
     let e : c .before .counts-of .result .steps ≡ length (tableOf (now (s .args .table)) .steps) =
-    ap (λ (k : Counts). k .steps) (c .before .counts-of .ensures) ∙ sym (accepted (now (s .args .table)) (s .pre .0) .steps-count) in
+    steps-are (now (s .args .table)) (c .before .counts-of .result) (c .before .counts-of .ensures) in
     (zero-le, e, refl, zero-le)
 
 -- the step that was read, and its price

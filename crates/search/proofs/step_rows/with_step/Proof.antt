@@ -11,8 +11,8 @@ use denote.Ref.{now}
 use Rattle.sets.specs.Member.{member, setOf}
 use Rattle.table.specs.declared.record.Step.{Step}
 use Rattle.table.proofs.Accepted.{ReadStep, read-step}
-use Rattle.search.specs.StepRows.{wordOf}
-use Rattle.search.proofs.StepWords.{word-below}
+use Rattle.rows.specs.Steps.{wordOf}
+use Rattle.rows.proofs.StepWords.{word-below}
 use Rattle.search.proofs.step_rows.with_step.Statement.{statement}
 use Rattle.search.proofs.step_rows.with_step.Tie as tie
 

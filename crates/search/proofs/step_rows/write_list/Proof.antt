@@ -1,7 +1,7 @@
 -- `write_list` meets its contract. The loop's invariant: the bytes of the steps before j are written.
 use Prim.Native.Nat.{ℕ, _-_, _≤_, zero-le}
 use mathlib.Core.Path.{_≡_, refl, sym, ap, _∙_}
-use mathlib.Core.Bool.{Bool, true, false, cond}
+use mathlib.Core.Bool.{Bool, true, cond}
 use mathlib.Core.List.{List, _++_}
 use native.Mathlib.Omega.{arith}
 use borrow.Author.Needs.{needs}
@@ -9,20 +9,16 @@ use mir.Val.{boolByte}
 use lib.ListN.{length, getD, set, drop, length-set}
 use lib.Seq.{take-all}
 use denote.Ref.{now}
-use Rattle.table.specs.declared.counts.Counts.{Counts}
 use Rattle.table.specs.Buffer.{over}
 use Rattle.table.specs.Table.{tableOf, stepAt}
-use Rattle.table.proofs.Accepted.{accepted, read-step}
+use Rattle.table.proofs.Accepted.{accepted, steps-are, read-step}
+use Rattle.table.proofs.Bools.{flag-byte}
 use Rattle.table.proofs.Buffer.{over-next}
 use Rattle.ctl.proofs.Tabulate.{length-tabulate, getD-tabulate}
-use Rattle.search.specs.StepRows.{stepBit, keptBytes}
+use Rattle.rows.specs.Steps.{stepBit}
+use Rattle.search.specs.StepRows.{keptBytes}
 use Rattle.search.proofs.step_rows.write_list.Statement.{statement}
 use Rattle.search.proofs.step_rows.write_list.Tie as tie
-
--- a flag as a byte
-byte-of : (b : Bool) → boolByte b ≡ cond b 1 0
-byte-of true = refl
-byte-of false = refl
 
 abbrev Inv-loop : tie.InvT-loop
 Inv-loop table rows list₀ e steps j₀ list j =
@@ -41,7 +37,7 @@ loop-holds : tie.Need-loop-holds Inv-loop μ-loop
 loop-holds c =
     let s = c .before .before .before .before .before in
     let e : c .before .counts-of .result .steps ≡ length (tableOf (now (s .args .table)) .steps) =
-    ap (λ (k : Counts). k .steps) (c .before .counts-of .ensures) ∙ sym (accepted (now (s .args .table)) (s .pre .0) .steps-count) in
+    steps-are (now (s .args .table)) (c .before .counts-of .result) (c .before .counts-of .ensures) in
     (zero-le, e, refl, refl)
 
 step-at-requires : tie.Need-step-at-requires Inv-loop μ-loop
@@ -81,7 +77,7 @@ loop-again c =
     let r = read-step (now (s .args .table)) (s .pre .0) (l .j) (omega arith) (now (part .result)) (part .ensures) (x .result) (x .ensures) in
     let known : c .is-known .result ≡ stepBit rows true (stepAt T (l .j)) = c .is-known .ensures ∙ ap (stepBit rows true) (r .here) in
     let value : boolByte (c .is-known .result) ≡ getD (keptBytes T rows) (l .j) 0 =
-    byte-of (c .is-known .result)
+    flag-byte (c .is-known .result)
     ∙ ap (λ (b : Bool). cond b 1 0) known
     ∙ sym (getD-tabulate (length (T .steps)) (λ j. cond (stepBit rows true (stepAt T j)) 1 0) (l .j) 0 (omega arith)) in (
       omega arith,

@@ -6,9 +6,9 @@ use borrow.Author.Needs.{needs}
 use lib.ListN.{getD}
 use denote.Ref.{now}
 use Rattle.sets.specs.Member.{member}
-use Rattle.search.proofs.StepWords.{word-below, word-bit}
-use Rattle.search.proofs.step_rows.is_known.Statement.{statement}
-use Rattle.search.proofs.step_rows.is_known.Tie as tie
+use Rattle.rows.proofs.StepWords.{word-below, word-bit}
+use Rattle.rows.proofs.steps.is_known.Statement.{statement}
+use Rattle.rows.proofs.steps.is_known.Tie as tie
 
 word-of-requires : tie.Need-word-of-requires
 word-of-requires c κs = search needs

@@ -3,9 +3,9 @@ use mathlib.Core.Path.{sym, ap, _∙_}
 use mathlib.Core.Bool.{Bool, false, _||_}
 use borrow.Author.Needs.{needs}
 use denote.Ref.{now}
-use Rattle.search.specs.StepRows.{stepBit}
-use Rattle.search.proofs.step_rows.is_settled.Statement.{statement}
-use Rattle.search.proofs.step_rows.is_settled.Tie as tie
+use Rattle.rows.specs.Steps.{stepBit}
+use Rattle.rows.proofs.steps.is_settled.Statement.{statement}
+use Rattle.rows.proofs.steps.is_settled.Tie as tie
 
 is-known-requires : tie.Need-is-known-requires
 is-known-requires c κs = search needs

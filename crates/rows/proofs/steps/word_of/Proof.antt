@@ -2,9 +2,9 @@
 use mathlib.Core.Path.{sym, ap}
 use mathlib.Core.Bool.{Bool}
 use borrow.Author.Needs.{needs}
-use Rattle.search.specs.StepRows.{wordOf}
-use Rattle.search.proofs.step_rows.word_of.Statement.{statement}
-use Rattle.search.proofs.step_rows.word_of.Tie as tie
+use Rattle.rows.specs.Steps.{wordOf}
+use Rattle.rows.proofs.steps.word_of.Statement.{statement}
+use Rattle.rows.proofs.steps.word_of.Tie as tie
 
 mul-result : tie.Need-mul-result
 mul-result c = search needs

@@ -1,0 +1,24 @@
+-- Every sample of the settled steps has its answer, by computation from the definitions.
+use mathlib.Core.Path.{_≡_, refl}
+use mathlib.Core.Bool.{true}
+use Rattle.sets.specs.Member.{member, countOf}
+use Rattle.table.specs.Table.{records}
+use Rattle.table.specs.Accept.{all, any}
+use Rattle.ctl.specs.Levels.{tabulate, iterate, nextIn, level, levels, select}
+use Rattle.ctl.specs.Labels.{keptSteps, endsFrom}
+use Rattle.ctl.specs.Price.{sumBelow}
+use Rattle.ctl.specs.Reached.{reachedSet, strike}
+use Rattle.circuit.specs.Logic.{gateClauses}
+use Rattle.circuit.specs.Variables.{concat, outOf, nodeVariables, variables}
+use Rattle.circuit.specs.Gates.{nodeGates, gates}
+use Rattle.circuit.specs.Clauses.{demands, clauses}
+use Rattle.closure.specs.Closure.{open-in, take-clause, round, rounds, marksOf}
+use Rattle.search.specs.Search.{walk, search}
+use Rattle.closure.specs.Numbered.{sameCode, place, numberedClauses}
+use Rattle.search.specs.TableSearch.{tableSearch}
+use Rattle.samples.specs.Samples.{answers, passes}
+use Rattle.samples.specs.Settled.{settledCases}
+
+pub settled-pass : all passes settledCases ≡ true
+unfolding member countOf records all any tabulate iterate nextIn level levels keptSteps endsFrom sumBelow reachedSet strike gateClauses concat outOf nodeVariables variables nodeGates gates select demands clauses open-in take-clause round rounds marksOf walk search sameCode place numberedClauses tableSearch answers passes
+settled-pass = refl
