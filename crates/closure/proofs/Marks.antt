@@ -19,6 +19,11 @@ use Rattle.closure.proofs.Forced.{not-both}
 abbrev pub Holds : Marks → Literal ℕ → Type 0
 Holds m l = markAt m (l .var) ≡ known (l .sign)
 
+-- a known mark says what it knows
+pub known-of : (m : Mark) → isKnown m ≡ true → (x : Bool) × (m ≡ known x)
+known-of unknown i = absurd (false≢true i)
+known-of (known x) i = (x, refl)
+
 -- ---- literals
 
 -- literals with the same sign and variable are equal

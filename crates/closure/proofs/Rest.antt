@@ -18,7 +18,7 @@ use Rattle.closure.proofs.Rounds.{Reached, Step, round-reached}
 abbrev pub Rest : List (List (Literal ℕ)) → Marks → Type 0
 Rest F m = (C : List (Literal ℕ)) → List·Memᴰ C F → Closed (Holds m) C
 
-clash-marked : {m : Marks} {b : Bool} → ¬ (clash ≡ marked m b)
+pub clash-marked : {m : Marks} {b : Bool} → ¬ (clash ≡ marked m b)
 clash-marked e = let z : _≡_ {A = ℕ} 0 1 = cc in omega arith
 
 -- ---- a round that adds nothing

@@ -2,24 +2,18 @@
 use Prim.Native.Nat.{ℕ, _≤_, _<_}
 use native.Mathlib.Omega.{arith}
 use mathlib.Core.Path.{_≡_, refl, sym, ap, _∙_}
-use mathlib.Core.Bool.{Bool, true, false≢true}
+use mathlib.Core.Bool.{Bool, true}
 use mathlib.Core.Logic.{_↔_}
 use mathlib.Core.List.{List}
 use Rattle.sets.proofs.SetOf.{countOf-cong}
 use Rattle.table.proofs.Bools.{same-test}
 use Rattle.circuit.specs.Logic.{Literal}
-use Rattle.closure.specs.Closure.{Forced, Fails, Mark, unknown, known, Marks, markAt, isKnown, Progress, clash, marked, closure, settledBelow}
+use Rattle.closure.specs.Closure.{Forced, Fails, known, Marks, markAt, isKnown, Progress, clash, marked, closure, settledBelow}
 use Rattle.closure.specs.Given.{Given, Within, Inside, Consistent}
 use Rattle.closure.specs.Settled.{HowMany, Settles, CountsSettled}
+use Rattle.closure.proofs.Marks.{known-of}
+use Rattle.closure.proofs.Rest.{clash-marked}
 use Rattle.closure.proofs.Computed.{closure-fails, closure-holds}
-
--- what is known is known with a sign
-sign-of : (x : Mark) → isKnown x ≡ true → (sign : Bool) × (x ≡ known sign)
-sign-of unknown e = absurd (false≢true e)
-sign-of (known sign) e = (sign, refl)
-
-clash-marked : (m : Marks) (new : Bool) → ¬ (clash ≡ marked m new)
-clash-marked m new e = let z : _≡_ {A = ℕ} 0 1 = cc in omega arith
 
 module _ (size : ℕ) (F : List (List (Literal ℕ))) (P : List (Literal ℕ))
     (inside : Inside size F) (consistent : Consistent P) (within : Within size P) (e : ℕ) (some : e ≤ size) where
@@ -29,12 +23,12 @@ module _ (size : ℕ) (F : List (List (Literal ℕ))) (P : List (Literal ℕ))
 
     known-settles : (j : ℕ) → j < e → (isKnown (markAt m j) ≡ true) ↔ Settles F (Given P) j
     known-settles j h = (
-      λ k. let r = sign-of (markAt m j) k in (r .0, mark-forced j (r .0) h .0 (r .1)),
+      λ k. let r = known-of (markAt m j) k in (r .0, mark-forced j (r .0) h .0 (r .1)),
       λ s. ap isKnown (mark-forced j (s .0) h .1 (s .1)),
     )
 
     marked-holds : ¬ Fails F (Given P)
-    marked-holds f = clash-marked m new (sym (closure-fails size F P inside consistent within .1 f) ∙ q)
+    marked-holds f = clash-marked (sym (closure-fails size F P inside consistent within .1 f) ∙ q)
 
   pub settled-right : CountsSettled F (Given P) (λ j. j) e (settledBelow e (closure size F P))
   settled-right = go (closure size F P) refl

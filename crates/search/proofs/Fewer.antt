@@ -10,10 +10,10 @@ use Rattle.table.specs.Table.{Table}
 use Rattle.table.specs.Facts.{Wellformed}
 use Rattle.circuit.specs.Logic.{Literal}
 use Rattle.closure.specs.Closure.{Mark, Marks, markAt, isKnown}
+use Rattle.closure.proofs.Marks.{known-of}
 use Rattle.search.specs.StepRows.{isUnsettled}
 use Rattle.search.specs.Stands.{StandsAt}
 use Rattle.search.proofs.StepMarks.{unsettled-mark}
-use Rattle.search.proofs.Stand.{known-of}
 use Rattle.search.proofs.ClosureRight.{closure-is-right}
 
 -- ---- unsettled steps

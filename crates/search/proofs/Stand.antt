@@ -1,23 +1,18 @@
 -- Where a search stands at step k: what it has chosen, its closure, and that every step below k is settled.
 use Prim.Native.Nat.{ℕ, suc, _≤_, _<_}
 use native.Mathlib.Omega.{arith}
-use mathlib.Core.Path.{_≡_, refl, sym, ap, _∙_}
-use mathlib.Core.Bool.{Bool, true, false, cond, false≢true}
+use mathlib.Core.Path.{_≡_, sym, ap, _∙_}
+use mathlib.Core.Bool.{Bool, true, false, cond}
 use mathlib.Core.List.{List, [], _∷_, List·Memᴰ}
 use lib.ListN.{length, getD}
 use lib.Seq.{ext-getD}
 use Rattle.circuit.specs.Logic.{Literal}
-use Rattle.closure.specs.Closure.{Mark, unknown, known, Marks, markAt, isKnown, Progress, marked}
-use Rattle.closure.proofs.Marks.{unknown-at}
+use Rattle.closure.specs.Closure.{known, Marks, markAt, isKnown, Progress, marked}
+use Rattle.closure.proofs.Marks.{known-of, unknown-at}
 use Rattle.search.proofs.InOrder.{below-suc}
 use Rattle.search.specs.TableSearch.{bitOf, bytesOf}
 use Rattle.search.proofs.Agree.{length-bytesOf, getD-bytesOf, member-none, member-more, Among}
 use Rattle.search.proofs.Needs.{ClosureIsRight}
-
--- a known mark says what it knows
-pub known-of : (m : Mark) → isKnown m ≡ true → (x : Bool) × (m ≡ known x)
-known-of unknown i = absurd (false≢true i)
-known-of (known x) i = (x, refl)
 
 module _ {e : ℕ} {Model : List ℕ → Type 0} {close : List (Literal ℕ) → Progress} {Fine : List (Literal ℕ) → Type 0}
     (right : ClosureIsRight e Model close Fine) where
