@@ -16,12 +16,12 @@ use Rattle.circuit.specs.Clauses.{Clause, clauses}
 use Rattle.rows.specs.declared.row.Row.{Row}
 use Rattle.rows.specs.Words.{SmallRow, stepPlace}
 use Rattle.closure.specs.Knowledge.{knowledge, Sized}
-use Rattle.propagate.specs.Memory.{Memory, nodePlace, keptPlace, addRow}
+use Rattle.propagate.specs.Memory.{Memory, nodePlace, keptPlace, addRow, addStep}
 use Rattle.closure.specs.Inside.{RowIn, StepsIn, Inside}
 use Rattle.closure.specs.Advance.{ForcedBy}
 use Rattle.closure.proofs.Forced.{Closed, forced-closed}
 use Rattle.closure.proofs.ClashSound.{clash-in, clash-steps-in}
-use Rattle.closure.proofs.Advances.{Advances, advance-so}
+use Rattle.closure.proofs.Advances.{Advances, advance-so, advance-told}
 use Rattle.closure.proofs.AddAdvance.{Quiet, union-small, rows-small, add-row}
 use Rattle.closure.proofs.AddSound.{union-in, steps-union-in, places-apart, Suits, rows-keep}
 
@@ -54,8 +54,8 @@ module _ (T : Table) (wf : Wellformed T) (M : Memory) (sized : Sized T M) (x : R
       node S added k (no d) = inl (places-apart 64 k i d)
 
   pub advance-step : (s : ℕ) → s < length (T .states) → Given T M (λ S. StepsIn T S s x)
-      → Advances T (λ K. Quiet x (K .steps s)) M (addRow (stepPlace s) x M)
-  advance-step s h given = advance-so T (λ q. q) (add-row T M sized (stepPlace s) x small place (record {
+      → Advances T (λ K. Quiet x (K .steps s)) M (addStep s x M)
+  advance-step s h given = advance-told T (addRow (stepPlace s) x M .report) (addStep s x M .report) refl refl (advance-so T (λ q. q) (add-row T M sized (stepPlace s) x small place (record {
     keeps = λ P inside. rows-keep T wf (ForcedBy T P) (closed T P) M sized (stepPlace s) x place
         (λ k l. out (ForcedBy T P) (given P inside) k (ℕ-discrete k s))
         (inl (inr (omega (arith, wf .few-states))))
@@ -63,7 +63,7 @@ module _ (T : Table) (wf : Wellformed T) (M : Memory) (sized : Sized T M) (x : R
         inside;
     clash = λ c P inside. clash-steps-in T wf (ForcedBy T P) (closed T P) s _ (union-small _ x (rows-small T M sized (stepPlace s)) small)
         (steps-union-in T (ForcedBy T P) s _ x (inside .steps s h) (given P inside)) c;
-  }))
+  })))
     where
       place : stepPlace s + 1 < 130
       place = omega (arith, wf .few-states)

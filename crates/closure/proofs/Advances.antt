@@ -46,6 +46,22 @@ module _ (T : Table) where
     more = a .more;
   }
 
+  -- of a report it speaks only as to whether something was added and whether it fails, not whose steps they were
+  pub advance-told : {Q : Knowledge → Type 0} {M N : Memory} (r s : Report) → s .changed ≡ r .changed → s .fails ≡ r .fails → Advance T Q M N r → Advance T Q M N s
+  advance-told r s c f a = record {
+    sized = a .sized;
+    grows-rows = a .grows-rows;
+    grows-words = a .grows-words;
+    same-rows-length = a .same-rows-length;
+    beyond = a .beyond;
+    same-words-length = a .same-words-length;
+    sound = a .sound;
+    clash = λ e. a .clash (sym f ∙ e);
+    unchanged = λ e. a .unchanged (sym c ∙ e);
+    quiet = λ d e. a .quiet (sym c ∙ d) (sym f ∙ e);
+    more = λ e. a .more (sym c ∙ e);
+  }
+
   pub advance-then : {P Q : Knowledge → Type 0} {M N O : Memory} {r s : Report} → Advance T P M N r → Advance T Q N O s
       → Advance T (Both P Q) M O (bothReports r s)
   advance-then {P} {Q} {M} {N} {O} {r} {s} a b = record {

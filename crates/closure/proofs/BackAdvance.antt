@@ -24,7 +24,7 @@ use Rattle.rows.specs.Rules.{row, isNone, unmet, lastLeft, backSteps, backEnd}
 use Rattle.closure.specs.Dual.{isEvery}
 use Rattle.rows.specs.Words.{rowAt, SmallRow, stepPlace}
 use Rattle.closure.specs.Knowledge.{Knowledge, knowledge, Sized}
-use Rattle.propagate.specs.Memory.{Memory, memory, Stepped, failing, goBack, goBackMore, addRow}
+use Rattle.propagate.specs.Memory.{Memory, memory, Stepped, failing, goBack, goBackMore, addStep}
 use Rattle.closure.specs.Inside.{RowIn, StepsIn, Inside}
 use Rattle.rows.specs.Back.{backRows, backRow, backReport}
 use Rattle.closure.specs.Advance.{ForcedBy}
@@ -109,12 +109,12 @@ module _ (T : Table) (wf : Wellformed T) (targets : List ℕ) (ends : (s : ℕ) 
   one-advance : (k : ℕ) → k < length (T .states) → (N : Memory) → Sized T N
       → ((S : Literal Var → Type 0) → Inside T S (knowledge T N) → Inside T S (knowledge T M))
       → Advances T (λ K. Within (stepsBy q A E (targetSet (T .steps) k) k (K .steps k)) (K .steps k)) N
-      (addRow (stepPlace k) (stepsBy q A E (getD targets k 0) k (rowAt (N .rows) (stepPlace k))) N)
+      (addStep k (stepsBy q A E (getD targets k 0) k (rowAt (N .rows) (stepPlace k))) N)
   one-advance k l N sized-N less =
       let here = rowAt (N .rows) (stepPlace k) in
       let small = rows-small T N sized-N (stepPlace k) in
       subst (λ (t : ℕ). Advances T (λ K. Within (stepsBy q A E (targetSet (T .steps) k) k (K .steps k)) (K .steps k)) N
-      (addRow (stepPlace k) (stepsBy q A E t k here) N)) (ends-at k l)
+      (addStep k (stepsBy q A E t k here) N)) (ends-at k l)
       (advance-so T (λ z. z .0) (advance-step T wf N sized-N (stepsBy q A E (targetSet (T .steps) k) k here)
       (steps-by-small q A E (targetSet (T .steps) k) k here (target-small (T .steps) k) small E-small) k l
       (λ P inside. in-steps P (less (ForcedBy T P) inside) k l here small (inside .steps k l))))

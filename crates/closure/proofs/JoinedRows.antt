@@ -51,7 +51,7 @@ module _ (ws : List ℕ) (at : ℕ) (x : Row) where
     at-second : getD (joined ws at x) (at + 1) 0 ≡ bitOr (getD ws (at + 1) 0) (x .no)
     at-second = getD-set-same half (at + 1) (bitOr (getD ws (at + 1) 0) (x .no)) 0 (lt-length-set ws at (bitOr (getD ws at 0) (x .yes)) fits)
 
-    at-other : (k : ℕ) → (k ≡ at → ⊥) → (k ≡ at + 1 → ⊥) → getD (joined ws at x) k 0 ≡ getD ws k 0
+    pub at-other : (k : ℕ) → (k ≡ at → ⊥) → (k ≡ at + 1 → ⊥) → getD (joined ws at x) k 0 ≡ getD ws k 0
     at-other k p q = getD-set-other half (at + 1) k (bitOr (getD ws (at + 1) 0) (x .no)) 0 q
         ∙ getD-set-other ws at k (bitOr (getD ws at 0) (x .yes)) 0 p
 

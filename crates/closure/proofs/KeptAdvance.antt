@@ -12,7 +12,7 @@ use Rattle.table.specs.Rows.{targetSet}
 use Rattle.ctl.specs.Rule.{rootIndex}
 use Rattle.rows.specs.Words.{rowAt, stepPlace}
 use Rattle.closure.specs.Knowledge.{Sized}
-use Rattle.propagate.specs.Memory.{Memory, nodePlace, keptPlace, _andThen_, addRow, nodeRow}
+use Rattle.propagate.specs.Memory.{Memory, nodePlace, keptPlace, _andThen_, addRow, addStep, nodeRow}
 use Rattle.rows.specs.Rules.{keptRow, keptSteps, openStarts, startKept, startRoot}
 use Rattle.closure.specs.Rest.{initialSet, RestKept, RestStart}
 use Rattle.closure.specs.Advance.{ForcedBy}
@@ -31,7 +31,7 @@ module _ (T : Table) (wf : Wellformed T) (M : Memory) (sized : Sized T M) where
   -- with the ends of the steps out of s as they are
   kept-at : (s : ℕ) → s < length (T .states) → Advances T (λ K. RestKept T K s) M
       (addRow keptPlace (keptRow s (targetSet (T .steps) s) (rowAt (M .rows) (stepPlace s))) M
-      andThen addRow (stepPlace s) (keptSteps s (targetSet (T .steps) s) (rowAt (M .rows) (stepPlace s)) (rowAt (M .rows) keptPlace)))
+      andThen addStep s (keptSteps s (targetSet (T .steps) s) (rowAt (M .rows) (stepPlace s)) (rowAt (M .rows) keptPlace)))
   kept-at s l =
       let steps = rowAt (M .rows) (stepPlace s) in
       let small = rows-small T M sized (stepPlace s) in
@@ -48,7 +48,7 @@ module _ (T : Table) (wf : Wellformed T) (M : Memory) (sized : Sized T M) where
   unfolding keptStep
   kept-advance targets s e l = subst (λ (t : ℕ). Advances T (λ K. RestKept T K s) M
       (addRow keptPlace (keptRow s t (rowAt (M .rows) (stepPlace s))) M
-      andThen addRow (stepPlace s) (keptSteps s t (rowAt (M .rows) (stepPlace s)) (rowAt (M .rows) keptPlace)))) (sym e) (kept-at s l)
+      andThen addStep s (keptSteps s t (rowAt (M .rows) (stepPlace s)) (rowAt (M .rows) keptPlace)))) (sym e) (kept-at s l)
 
   pub start-advance : Advances T (λ K. RestStart T K) M (startStep (initialSet T) (rootIndex T) M)
   unfolding startStep

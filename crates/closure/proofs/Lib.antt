@@ -1,4 +1,6 @@
 pub mod RowLaws
+pub mod MarkLaws
+pub mod NodeReads
 pub mod Ends
 pub mod Forced
 pub mod Marks
@@ -51,6 +53,7 @@ pub mod Advances
 pub mod AddAdvance
 pub mod InsideParts
 pub mod AddSound
+pub mod Stays
 pub mod AddPlaces
 pub mod AddLevel
 pub mod RulesSmall
@@ -61,7 +64,15 @@ pub mod PlainAdvance
 pub mod NewRows
 pub mod BackAdvance
 pub mod NextAdvance
-pub mod Visits
 pub mod LevelAdvance
 pub mod NodeAdvance
-pub mod SweepAdvance
+pub mod Agree
+pub mod Masked
+pub mod Alike
+pub mod Frame
+pub mod Noting
+pub mod Looking
+pub mod VisitNode
+pub mod NodeVisit
+pub mod VisitAll
+pub mod VisitKept

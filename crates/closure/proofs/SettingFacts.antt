@@ -14,7 +14,7 @@ use Rattle.closure.specs.Knowledge.{levelBase, levelTotal}
 use Rattle.closure.specs.Setting.{Setting}
 use Rattle.closure.proofs.NodeLevels.{node-levels}
 
-module _ {table : List ℕ} {net : Net} {targets bases : List ℕ} (g : Setting table net targets bases) where
+module _ {table : List ℕ} {net : Net} {targets bases readers : List ℕ} (g : Setting table net targets bases readers) where
   pub wellformed : Wellformed (tableOf table)
   wellformed = accepted table (g .accepted) .table
 

@@ -20,6 +20,10 @@ use Rattle.closure.specs.Inside.{Inside, Clash}
 abbrev pub ForcedBy : Table → List (Literal Var) → Literal Var → Type 0
 ForcedBy T P = Forced (clauses T) (λ l. List·Memᴰ l P)
 
+-- what is known is forced by some literals
+abbrev pub Founded : Table → Memory → Type 0
+Founded T M = (P : List (Literal Var)) × Inside T (ForcedBy T P) (knowledge T M)
+
 -- each bit of the words stays
 abbrev pub Grows : List ℕ → List ℕ → Type 0
 Grows before after = (k s : ℕ) → member (getD before k 0) s ≡ true → member (getD after k 0) s ≡ true

@@ -4,6 +4,7 @@ use propagate::node_row;
 use rows::Report;
 use rows::Row;
 use rows::add;
+use rows::add_step;
 use rows::both;
 use rows::is_only;
 use rows::kept_row;
@@ -11,15 +12,15 @@ use rows::kept_steps;
 use rows::row_at;
 ghost use mathlib.Core.Path.{_≡_};
 ghost use mathlib.Core.List.{List};
-ghost use Prim.Native.Nat.{ℕ, _≤_, _<_};
+ghost use Prim.Native.Nat.{ℕ, _<_};
 ghost use lib.ListN.{length};
 ghost use Rattle.closure.specs.Sweep.{keptStep, startStep};
-ghost use Rattle.propagate.specs.Memory.{memory, stepped, eachBelow};
+ghost use Rattle.propagate.specs.Memory.{memory, stepped};
 
 // Where the row of K lies.
-const KEPT_PLACE: usize = 128;
+pub const KEPT_PLACE: usize = 128;
 
-fn kept_step(targets: &[u32], rows: &mut [u32], s: usize) -> Report
+pub fn kept_step(targets: &[u32], rows: &mut [u32], s: usize) -> Report
     requires { ⌜ (s < 32) × ((length (now targets) ≡ 32) × (length (now rows) ≡ 130)) ⌝ }
     ensures { λ q. ⌜ ((w : List ℕ) → stepped (now (rows .exit)) w q ≡ keptStep (now (targets .entry)) s (memory (now (rows .entry)) w)) ⌝ }
 {
@@ -27,23 +28,7 @@ fn kept_step(targets: &[u32], rows: &mut [u32], s: usize) -> Report
     let x = row_at(rows, 2 * s);
     let k = row_at(rows, KEPT_PLACE);
     let first = add(rows, KEPT_PLACE, kept_row(s, target, x));
-    both(first, add(rows, 2 * s, kept_steps(s, target, x, k)))
-}
-
-pub fn kept_states(targets: &[u32], rows: &mut [u32], n: usize) -> Report
-    requires { ⌜ (n ≤ 32) × ((length (now targets) ≡ 32) × (length (now rows) ≡ 130)) ⌝ }
-    ensures { λ q. ⌜ ((w : List ℕ) → stepped (now (rows .exit)) w q ≡ eachBelow (keptStep (now (targets .entry))) n (memory (now (rows .entry)) w)) ⌝ }
-{
-    let mut report = Report {
-        changed: false,
-        fails: false,
-    };
-    let mut s = 0;
-    while s < n {
-        report = both(report, kept_step(targets, rows, s));
-        s += 1;
-    }
-    report
+    both(first, add_step(rows, s, kept_steps(s, target, x, k)))
 }
 
 // An initial state is kept, and the root holds at each that is.
@@ -58,6 +43,7 @@ pub fn start_step(rows: &mut [u32], initial: u32, root: usize) -> Report
     let start = Report {
         changed: false,
         fails: left == 0,
+        steps: 0,
     };
     let first = both(
         start,

@@ -1,4 +1,4 @@
-// The rules of a node, by its kind.
+// The rules of a node, by its kind; at the states of a set, where it reads steps.
 use propagate::add_node;
 use propagate::fixpoint_step;
 use propagate::next_step;
@@ -23,6 +23,7 @@ pub fn node_step(
     rows: &mut [u32],
     words: &mut [u32],
     n: usize,
+    look: u32,
     base: usize,
     i: usize,
     x: Node,
@@ -31,7 +32,7 @@ pub fn node_step(
     requires { ⌜ (i < 32) × ((x .a < 32) × ((x .b < 32) × (length (now rows) ≡ 130))) ⌝ }
     requires { ⌜ (n ≤ 32) × (length (now targets) ≡ 32) ⌝ }
     requires { ⌜ (8 ≤ x .kind → base + 2 * (n - 1) ≤ length (now words)) ⌝ }
-    ensures { λ q. ⌜ ((bases : List ℕ) → getD bases i 0 ≡ base → stepped (now (rows .exit)) (now (words .exit)) q ≡ nodeStep (now (table .entry)) (now (targets .entry)) bases n down i (operatorOf x) (memory (now (rows .entry)) (now (words .entry)))) ⌝ }
+    ensures { λ q. ⌜ ((bases : List ℕ) → getD bases i 0 ≡ base → stepped (now (rows .exit)) (now (words .exit)) q ≡ nodeStep (now (table .entry)) (now (targets .entry)) bases n look down i (operatorOf x) (memory (now (rows .entry)) (now (words .entry)))) ⌝ }
 {
     let kind = x.kind;
     // from kind 6 on, an even kind is of every path
@@ -47,10 +48,23 @@ pub fn node_step(
         3 => same_step(rows, i, false, a),
         4 => pair_step(rows, i, true, a, b),
         5 => pair_step(rows, i, false, a, b),
-        6 | 7 => next_step(targets, rows, n, i, every, a),
+        6 | 7 => next_step(targets, rows, n, look, i, every, a),
         8 | 9 | 10 | 11 | 12 | 13 | 14 | 15 => {
             let family = family_of(kind);
-            fixpoint_step(targets, rows, words, n, base, family, i, every, a, b, down)
+            fixpoint_step(
+                targets,
+                rows,
+                words,
+                n,
+                look,
+                base,
+                family,
+                i,
+                every,
+                a,
+                b,
+                down,
+            )
         }
         _ => add_node(rows, i, constant_row(n, 0)),
     }

@@ -1,17 +1,26 @@
-// The closure: sweeps up and down in turn until one adds nothing or something is known both ways.
-use crate::kept::kept_states;
-use crate::kept::start_step;
+// The closure, by events: sweeps up and down in turn over what is to be looked at, until nothing is or something is known both ways.
+use crate::marking::mark_steps;
 use crate::net::Net;
-use crate::nodes::Visited;
-use crate::nodes::nodes_step;
+use crate::nodes::nodes_visit;
 use crate::settled::settled_steps;
+use crate::visit::kept_visit;
+use crate::visit::start_visit;
+use rows::Report;
 use rows::both;
 ghost use mathlib.Core.Path.{_≡_};
+ghost use mathlib.Core.Bool.{true, false};
+ghost use Prim.Native.Nat.{ℕ, _<_};
+ghost use lib.ListN.{length, getD};
+ghost use Rattle.sets.specs.Member.{member};
 ghost use Rattle.table.specs.Table.{tableOf};
-ghost use Rattle.closure.specs.Knowledge.{Sized};
-ghost use Rattle.closure.specs.Sweep.{sweep};
-ghost use Rattle.propagate.specs.Memory.{memory, stepped};
+ghost use Rattle.closure.specs.Knowledge.{knowledge, Sized};
+ghost use Rattle.closure.specs.Rest.{RestStart};
+ghost use Rattle.propagate.specs.Memory.{memory};
 ghost use Rattle.closure.specs.Setting.{Setting};
+ghost use Rattle.closure.specs.Watched.{RestBut};
+ghost use Rattle.closure.specs.Readers.{StepsMarked};
+ghost use Rattle.closure.specs.Advance.{Founded};
+ghost use Rattle.closure.specs.Looked.{Swept, Looked};
 ghost use Rattle.closure.specs.Closes.{Closed};
 
 // What working out a closure gives: whether it fails, and how many steps it settles, 0 where it fails. The rows are in the memory.
@@ -20,62 +29,108 @@ pub struct Closure {
     pub settled: u32,
 }
 
-// K, the initial states and the nodes that are not known to be at rest.
+// K, the initial states and the nodes.
 fn sweep_once(
     table: &[u8],
     net: Net,
     targets: &[u32],
     bases: &[usize],
+    readers: &[u32],
     rows: &mut [u32],
     words: &mut [u32],
+    looks: &mut [u32],
     down: bool,
-    resting: u32,
-) -> Visited
-    requires { ⌜ Setting (now table) net (now targets) (now bases) ⌝ }
+) -> Report
+    requires { ⌜ Setting (now table) net (now targets) (now bases) (now readers) ⌝ }
     requires { ⌜ Sized (tableOf (now table)) (memory (now rows) (now words)) ⌝ }
-    ensures { λ v. ⌜ stepped (now (rows .exit)) (now (words .exit)) (v .report) ≡ sweep (now (table .entry)) net (now (targets .entry)) (now (bases .entry)) down resting (memory (now (rows .entry)) (now (words .entry))) .done ⌝ }
-    ensures { λ v. ⌜ v .resting ≡ sweep (now (table .entry)) net (now (targets .entry)) (now (bases .entry)) down resting (memory (now (rows .entry)) (now (words .entry))) .left ⌝ }
+    requires { ⌜ length (now looks) ≡ 33 ⌝ }
+    ensures { λ r. ⌜ Looked (tableOf (now (table .entry))) (Swept (tableOf (now (table .entry)))) (RestStart (tableOf (now (table .entry)))) (now (looks .entry)) (now (looks .exit)) (memory (now (rows .entry)) (now (words .entry))) (memory (now (rows .exit)) (now (words .exit))) r ⌝ }
 {
-    let first = kept_states(targets, rows, net.states);
-    let second = both(first, start_step(rows, net.initial, net.nodes - 1));
-    let still = if second.changed { 0 } else { resting };
-    let v = nodes_step(table, net, targets, bases, rows, words, down, still);
-    Visited {
-        report: both(second, v.report),
-        resting: v.resting,
+    let first = kept_visit(table, net, targets, bases, readers, rows, looks);
+    let second = both(
+        first,
+        start_visit(table, net, targets, bases, readers, rows, looks),
+    );
+    if second.fails {
+        return second;
     }
+    both(
+        second,
+        nodes_visit(
+            table,
+            net,
+            targets,
+            bases,
+            readers,
+            rows,
+            words,
+            looks,
+            down,
+        ),
+    )
 }
 
-// Works out the closure of every set of step literals P for which the rows lie between P and its closure.
+// The words of the states to look at: all states, or where the steps out of the states of a set have changed.
+fn first_looks(readers: &[u32], fresh: bool, changed: u32) -> [u32; 33]
+    requires { ⌜ length (now readers) ≡ 65 ⌝ }
+    ensures { λ r. ⌜ length r ≡ 33 ⌝ }
+    ensures { λ r. ⌜ («fresh» ≡ true → (k s : ℕ) → k < 33 → s < 32 → member (getD r k 0) s ≡ true) ⌝ }
+    ensures { λ r. ⌜ («fresh» ≡ false → StepsMarked (now (readers .entry)) r changed) ⌝ }
+{
+    if fresh {
+        return [0xffff_ffff; 33];
+    }
+    let mut looks = [0u32; 33];
+    mark_steps(readers, &mut looks, changed);
+    looks
+}
+
+// Works out the closure of every set of step literals P for which the rows lie between P and its closure. Unless it begins afresh, all is at rest but
+// what reads the steps out of the states of a set.
 pub fn close(
     table: &[u8],
     net: Net,
     targets: &[u32],
     bases: &[usize],
+    readers: &[u32],
     rows: &mut [u32],
     words: &mut [u32],
+    fresh: bool,
+    changed: u32,
 ) -> Closure
-    requires { ⌜ Setting (now table) net (now targets) (now bases) ⌝ }
+    requires { ⌜ Setting (now table) net (now targets) (now bases) (now readers) ⌝ }
     requires { ⌜ Sized (tableOf (now table)) (memory (now rows) (now words)) ⌝ }
+    requires { ⌜ Founded (tableOf (now table)) (memory (now rows) (now words)) ⌝ }
+    requires { ⌜ («fresh» ≡ false → RestBut (tableOf (now table)) changed (knowledge (tableOf (now table)) (memory (now rows) (now words)))) ⌝ }
     ensures { λ r. ⌜ Closed (tableOf (now (table .entry))) r (memory (now (rows .entry)) (now (words .entry))) (memory (now (rows .exit)) (now (words .exit))) ⌝ }
+    ensures { λ r. ⌜ (r .fails ≡ false → RestBut (tableOf (now (table .entry))) 0 (knowledge (tableOf (now (table .entry))) (memory (now (rows .exit)) (now (words .exit))))) ⌝ }
 {
+    let mut looks = first_looks(readers, fresh, changed);
     let mut down = false;
-    let mut resting = 0u32;
     loop {
-        let v = sweep_once(table, net, targets, bases, rows, words, down, resting);
-        if v.report.fails {
+        let r = sweep_once(
+            table,
+            net,
+            targets,
+            bases,
+            readers,
+            rows,
+            words,
+            &mut looks,
+            down,
+        );
+        if r.fails {
             return Closure {
                 fails: true,
                 settled: 0,
             };
         }
-        if !v.report.changed {
+        if !r.changed {
             return Closure {
                 fails: false,
                 settled: settled_steps(table, rows),
             };
         }
-        resting = v.resting;
         down = !down;
     }
 }

@@ -3,7 +3,7 @@ use Prim.Native.Nat.{ℕ}
 use mathlib.Core.Bool.{Bool}
 use mathlib.Core.List.{List}
 use Rattle.rows.specs.Row.{turned}
-use Rattle.rows.specs.Rules.{newOf, andOutput, andInput}
+use Rattle.rows.specs.Rules.{masked, newOf, andOutput, andInput}
 use Rattle.propagate.specs.Memory.{Memory, nodePlace, Stepped, _andThen_, addRow, nodeRow, aheadIn, goBackMore}
 
 -- one input: what is known passes both ways
@@ -20,8 +20,8 @@ bothStep i e a b M =
     andThen addRow (nodePlace a) (turned e (andInput g (turned e (nodeRow M b))))
     andThen addRow (nodePlace b) (turned e (andInput g (turned e (nodeRow M a))))
 
--- AX; EX is its dual
-abbrev pub nextStep : List ℕ → ℕ → ℕ → Bool → ℕ → Memory → Stepped
-nextStep targets n i e a M =
-    addRow (nodePlace i) (aheadIn targets n e (nodeRow M a) M) M
-    andThen (λ M′. goBackMore targets n e (newOf (nodeRow M′ i) (aheadIn targets n e (nodeRow M a) M)) (nodeRow M a) (addRow (nodePlace a)) M′)
+-- AX; EX is its dual. Of N only the states of a set are looked at.
+abbrev pub nextStep : List ℕ → ℕ → ℕ → ℕ → Bool → ℕ → Memory → Stepped
+nextStep targets n set i e a M =
+    addRow (nodePlace i) (aheadIn targets set e (nodeRow M a) M) M
+    andThen (λ M′. goBackMore targets n e (newOf (masked set (nodeRow M′ i)) (aheadIn targets set e (nodeRow M a) M)) (nodeRow M a) (addRow (nodePlace a)) M′)

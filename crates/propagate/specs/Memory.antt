@@ -7,8 +7,8 @@ use lib.ListN.{getD}
 use Rattle.rows.specs.declared.row.Row.{Row}
 use Rattle.rows.specs.declared.row.Report.{Report}
 use Rattle.rows.specs.Row.{turned}
-use Rattle.rows.specs.Rules.{isNone, aheadRow}
-use Rattle.rows.specs.Words.{rowAt, joined, reportOf, bothReports, stepPlace}
+use Rattle.rows.specs.Rules.{isNone, aheadAt}
+use Rattle.rows.specs.Words.{rowAt, joined, reportOf, stepReport, bothReports, stepPlace}
 use Rattle.rows.specs.Back.{backRows, backRow, backReport}
 
 pub record Memory : Type 0 where
@@ -37,7 +37,7 @@ stepped rows words r = record { memory = memory rows words; report = r }
 
 -- nothing is done; it has failed if so
 abbrev pub failing : Bool → Memory → Stepped
-failing f M = record { memory = M; report = record { changed = false; fails = f } }
+failing f M = record { memory = M; report = record { changed = false; fails = f; steps = 0 } }
 
 infixl 20 _andThen_
 abbrev pub _andThen_ : Stepped → (Memory → Stepped) → Stepped
@@ -46,6 +46,10 @@ s andThen f = record { memory = f (s .memory) .memory; report = bothReports (s .
 -- what a row knows added to the row at a place, of the rows and of the words
 abbrev pub addRow : ℕ → Row → Memory → Stepped
 addRow at x M = record { memory = memory (joined (M .rows) at x) (M .words); report = reportOf (M .rows) at x }
+
+-- to the row of the steps out of s
+abbrev pub addStep : ℕ → Row → Memory → Stepped
+addStep s x M = record { memory = memory (joined (M .rows) (stepPlace s) x) (M .words); report = stepReport (M .rows) s x }
 
 abbrev pub addWord : ℕ → Row → Memory → Stepped
 addWord at x M = record { memory = memory (M .rows) (joined (M .words) at x); report = reportOf (M .words) at x }
@@ -80,11 +84,11 @@ ordered down n k = cond down (n - 1 - k) k
 
 -- ---- the steps out of the states
 
-module _ (targets : List ℕ) (n : ℕ) where
-  -- N over a row of ends
-  abbrev pub aheadIn : Bool → Row → Memory → Row
-  aheadIn e end M = turned e (aheadRow (λ s. getD targets s 0) (λ s. rowAt (M .rows) (stepPlace s)) n (turned e end))
+-- N over a row of ends, at the states of a set
+abbrev pub aheadIn : List ℕ → ℕ → Bool → Row → Memory → Row
+aheadIn targets set e end M = turned e (aheadAt (λ s. getD targets s 0) (λ s. rowAt (M .rows) (stepPlace s)) set (turned e end))
 
+module _ (targets : List ℕ) (n : ℕ) where
   -- back from N to the steps, and to the row of the ends by `addEnd`
   abbrev pub goBack : Bool → Row → Row → (Row → Memory → Stepped) → Memory → Stepped
   goBack e ahead end addEnd M =

@@ -10,6 +10,7 @@ use rows::and_output;
 use rows::both;
 use rows::go_back;
 use rows::is_none;
+use rows::mask;
 use rows::new_of;
 use rows::turn;
 use table::Family;
@@ -58,23 +59,24 @@ pub fn pair_step(rows: &mut [u32], i: usize, same: bool, a: usize, b: usize) -> 
     both_step(rows, i, same, a, b)
 }
 
-// AX; EX is its dual.
+// AX; EX is its dual. Of N only the states of a set are looked at.
 pub fn next_step(
     targets: &[u32],
     rows: &mut [u32],
     n: usize,
+    look: u32,
     i: usize,
     every: bool,
     a: usize,
 ) -> Report
     requires { ⌜ (i < 32) × ((a < 32) × (length (now rows) ≡ 130)) ⌝ }
     requires { ⌜ (n ≤ 32) × (length (now targets) ≡ 32) ⌝ }
-    ensures { λ q. ⌜ ((w : List ℕ) → stepped (now (rows .exit)) w q ≡ nextStep (now (targets .entry)) n i every a (memory (now (rows .entry)) w)) ⌝ }
+    ensures { λ q. ⌜ ((w : List ℕ) → stepped (now (rows .exit)) w q ≡ nextStep (now (targets .entry)) n look i every a (memory (now (rows .entry)) w)) ⌝ }
 {
     let end = turn(every, node_row(rows, a));
-    let up = turn(every, ahead(targets, rows, n, end));
+    let up = turn(every, ahead(targets, rows, look, end));
     let first = add_node(rows, i, up);
-    let more = new_of(node_row(rows, i), up);
+    let more = new_of(mask(look, node_row(rows, i)), up);
     if is_none(more) {
         return first;
     }
@@ -82,12 +84,13 @@ pub fn next_step(
     both(first, both(k.report, add_node(rows, a, turn(every, k.end))))
 }
 
-// The levels of a fixed-point node.
+// The levels of a fixed-point node, at the states of a set.
 pub fn fixpoint_step(
     targets: &[u32],
     rows: &mut [u32],
     words: &mut [u32],
     n: usize,
+    look: u32,
     base: usize,
     family: Family,
     i: usize,
@@ -99,7 +102,7 @@ pub fn fixpoint_step(
     requires { ⌜ (i < 32) × ((a < 32) × ((b < 32) × (length (now rows) ≡ 130))) ⌝ }
     requires { ⌜ (n ≤ 32) × (length (now targets) ≡ 32) ⌝ }
     requires { ⌜ base + 2 * (n - 1) ≤ length (now words) ⌝ }
-    ensures { λ q. ⌜ stepped (now (rows .exit)) (now (words .exit)) q ≡ levelsFrom (now (targets .entry)) n (fixpointAt family i every a b base) down n (memory (now (rows .entry)) (now (words .entry))) .done ⌝ }
+    ensures { λ q. ⌜ stepped (now (rows .exit)) (now (words .exit)) q ≡ levelsFrom (now (targets .entry)) n (fixpointAt family i every a b base) down look n (memory (now (rows .entry)) (now (words .entry))) .done ⌝ }
 {
     let x = Fixpoint {
         family: family,
@@ -109,5 +112,5 @@ pub fn fixpoint_step(
         every: every,
         base: base,
     };
-    levels_step(targets, rows, words, n, x, down)
+    levels_step(targets, rows, words, n, x, down, look)
 }

@@ -10,6 +10,7 @@ use rows::both;
 use rows::go_back;
 use rows::is_none;
 use rows::join;
+use rows::mask;
 use rows::row_at;
 use rows::turn;
 use table::Family;
@@ -57,7 +58,7 @@ fn add_level(rows: &mut [u32], words: &mut [u32], n: usize, x: Fixpoint, m: usiz
     add(words, x.base + 2 * (m - 1), r)
 }
 
-// What is known around level m + 1, joined: the level, a and b, and N over the level below.
+// What is known around level m + 1 at the states of a set, joined: the level, a and b, and N over the level below.
 fn joined_at(
     targets: &[u32],
     rows: &[u32],
@@ -65,17 +66,18 @@ fn joined_at(
     n: usize,
     x: Fixpoint,
     m: usize,
+    look: u32,
     below: Row,
 ) -> Joined
     requires { ⌜ Fits n x (now rows) (now words) ⌝ }
     requires { ⌜ (m < n) × ((n ≤ 32) × (length (now targets) ≡ 32)) ⌝ }
-    ensures { λ r. ⌜ r ≡ joinedAt (now (targets .entry)) n x m below (memory (now (rows .entry)) (now (words .entry))) ⌝ }
+    ensures { λ r. ⌜ r ≡ joinedAt (now (targets .entry)) n x m look below (memory (now (rows .entry)) (now (words .entry))) ⌝ }
 {
     let every = x.every;
-    let up = turn(every, ahead(targets, rows, n, turn(every, below)));
-    let level = level_row(rows, words, n, x, m + 1);
-    let a = node_row(rows, x.a);
-    let b = node_row(rows, x.b);
+    let up = turn(every, ahead(targets, rows, look, turn(every, below)));
+    let level = mask(look, level_row(rows, words, n, x, m + 1));
+    let a = mask(look, node_row(rows, x.a));
+    let b = mask(look, node_row(rows, x.b));
     let family = x.family;
     join(family, level, a, b, up)
 }
@@ -96,6 +98,7 @@ fn add_joined(
     let start = Report {
         changed: false,
         fails: j.fails,
+        steps: 0,
     };
     let first = both(start, add_level(rows, words, n, x, m + 1, j.level));
     let second = both(first, add_node(rows, x.a, j.a));
@@ -121,6 +124,7 @@ fn level_back(
         return Report {
             changed: false,
             fails: false,
+            steps: 0,
         };
     }
     let every = x.every;
@@ -131,7 +135,7 @@ fn level_back(
     )
 }
 
-// Level m + 1 over level m.
+// Level m + 1 over level m, at the states of a set.
 pub fn level_step(
     targets: &[u32],
     rows: &mut [u32],
@@ -139,13 +143,14 @@ pub fn level_step(
     n: usize,
     x: Fixpoint,
     m: usize,
+    look: u32,
 ) -> Report
     requires { ⌜ Fits n x (now rows) (now words) ⌝ }
     requires { ⌜ (m < n) × ((n ≤ 32) × (length (now targets) ≡ 32)) ⌝ }
-    ensures { λ q. ⌜ stepped (now (rows .exit)) (now (words .exit)) q ≡ levelStep (now (targets .entry)) n x m (memory (now (rows .entry)) (now (words .entry))) ⌝ }
+    ensures { λ q. ⌜ stepped (now (rows .exit)) (now (words .exit)) q ≡ levelStep (now (targets .entry)) n x m look (memory (now (rows .entry)) (now (words .entry))) ⌝ }
 {
     let below = level_row(rows, words, n, x, m);
-    let j = joined_at(targets, rows, words, n, x, m, below);
+    let j = joined_at(targets, rows, words, n, x, m, look, below);
     let first = add_joined(rows, words, n, x, m, j);
     both(
         first,

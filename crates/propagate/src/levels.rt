@@ -1,4 +1,5 @@
-// All levels of a fixed-point node. Levels soon become alike, so a level with the rows of one that added nothing is passed over.
+// All levels of a fixed-point node, at the states of a set; once something was added, at all states. Levels soon become alike, so a level with the rows
+// of one that added nothing is passed over.
 use crate::level::Fixpoint;
 use crate::level::level_row;
 use crate::level::level_step;
@@ -13,8 +14,9 @@ ghost use lib.ListN.{length};
 ghost use Rattle.propagate.specs.Memory.{memory, stepped};
 ghost use Rattle.propagate.specs.Level.{alike, levelVisit, levelsFrom, Fits};
 
-// The level looked at last: whether it added nothing, its row and that of the level below it.
+// The states to look at, and the level looked at last: whether it added nothing, its row and that of the level below it.
 pub struct Seen {
+    pub look: u32,
     pub quiet: bool,
     pub level: Row,
     pub below: Row,
@@ -60,14 +62,21 @@ fn level_visit(
             report: Report {
                 changed: false,
                 fails: false,
+                steps: 0,
             },
             seen: seen,
         };
     }
-    let report = level_step(targets, rows, words, n, x, m);
+    let report = level_step(targets, rows, words, n, x, m, seen.look);
+    let look = if report.changed {
+        sets::below(n)
+    } else {
+        seen.look
+    };
     LevelVisit {
         report: report,
         seen: Seen {
+            look: look,
             quiet: is_quiet(report),
             level: level,
             below: below,
@@ -83,16 +92,19 @@ pub fn levels_step(
     n: usize,
     x: Fixpoint,
     down: bool,
+    look: u32,
 ) -> Report
     requires { ⌜ Fits n x (now rows) (now words) ⌝ }
     requires { ⌜ (n ≤ 32) × (length (now targets) ≡ 32) ⌝ }
-    ensures { λ q. ⌜ stepped (now (rows .exit)) (now (words .exit)) q ≡ levelsFrom (now (targets .entry)) n x down n (memory (now (rows .entry)) (now (words .entry))) .done ⌝ }
+    ensures { λ q. ⌜ stepped (now (rows .exit)) (now (words .exit)) q ≡ levelsFrom (now (targets .entry)) n x down look n (memory (now (rows .entry)) (now (words .entry))) .done ⌝ }
 {
     let mut report = Report {
         changed: false,
         fails: false,
+        steps: 0,
     };
     let mut seen = Seen {
+        look: look,
         quiet: false,
         level: Row { yes: 0, no: 0 },
         below: Row { yes: 0, no: 0 },

@@ -1,10 +1,10 @@
--- Clearing the front of a buffer, one entry after the other, and what is left behind it.
-use Prim.Native.Nat.{ℕ, _+_, _-_, _≤_, _<_}
+-- Clearing the front of a buffer, one entry after the other.
+use Prim.Native.Nat.{ℕ, _+_, _≤_, _<_}
 use mathlib.Core.Path.{_≡_, sym, ap, subst, _∙_}
 use mathlib.Core.List.{List}
 use native.Mathlib.Omega.{arith}
-use lib.ListN.{length, getD, set, drop, replicate, length-replicate, getD-replicate, length-drop}
-use lib.Seq.{ext-getD, getD-drop, take-all}
+use lib.ListN.{length, set, replicate, length-replicate, getD-replicate}
+use lib.Seq.{take-all}
 use Rattle.table.specs.Buffer.{over, Written}
 use Rattle.table.proofs.Buffer.{over-next, over-length, over-written}
 use Rattle.repair.specs.Outcome.{cleared}
@@ -26,9 +26,3 @@ cleared-written k buffer h =
     let size = length-replicate {A = ℕ} k 0 in
     subst (λ (front : List ℕ). Written front buffer (cleared k buffer)) (take-all k zeros (omega (arith, size)))
     (over-written k zeros buffer (omega (arith, size)) h)
-
--- buffers that agree from some place on agree behind every later one
-pub same-beyond : (at k : ℕ) (xs ys : List ℕ) → at ≤ k → length xs ≡ length ys → ((j : ℕ) → at ≤ j → getD xs j 0 ≡ getD ys j 0) → drop k xs ≡ drop k ys
-same-beyond at k xs ys h size same =
-    ext-getD 0 (drop k xs) (drop k ys) (length-drop k xs ∙ ap (λ (n : ℕ). n - k) size ∙ sym (length-drop k ys)) (λ j l.
-    getD-drop k xs j 0 ∙ same (k + j) (omega arith) ∙ sym (getD-drop k ys j 0))

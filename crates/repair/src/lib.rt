@@ -42,7 +42,7 @@ pub fn repair(
     if words.len() < v {
         return Answer::Refused(Refusal::ShortBuffer);
     }
-    let answer = run(table, cap, list, words);
+    let answer = run(table, cap, list, words, v);
     clear_bytes(bytes, v);
     clear_words(words, v);
     answer

@@ -13,21 +13,33 @@ ghost use Rattle.circuit.specs.Variables.{variableFormula};
 ghost use Rattle.search.specs.TableSearch.{searchUnder};
 ghost use Rattle.repair.specs.Outcome.{answerOf, writtenAfter};
 
-// What the search is told beside the bytes is worked out once. It uses no words past the first V.
-pub fn run(table: &[u8], cap: u64, list: &mut [u8], words: &mut [u32]) -> Answer
+// What the search is told beside the bytes is worked out once. It is lent the first V words, and uses what room they leave beside the levels.
+pub fn run(table: &[u8], cap: u64, list: &mut [u8], words: &mut [u32], cells: usize) -> Answer
     requires { ⌜ tableVerdict (now table) ≡ Accepted ⌝ }
     requires { ⌜ length (tableOf (now table) .steps) ≤ length (now list) ⌝ }
     requires { ⌜ variableFormula (tableOf (now table)) ≤ length (now words) ⌝ }
+    requires { ⌜ cells ≡ variableFormula (tableOf (now table)) ⌝ }
     ensures { λ r. ⌜ r ≡ answerOf (searchUnder (tableOf (now (table .entry))) cap) ⌝ }
     ensures { λ _. ⌜ now (list .exit) ≡ writtenAfter (tableOf (now (table .entry))) (searchUnder (tableOf (now (table .entry))) cap) (now (list .entry)) ⌝ }
     ensures { λ _. ⌜ drop (variableFormula (tableOf (now (table .entry)))) (now (words .exit)) ≡ drop (variableFormula (tableOf (now (table .entry)))) (now (words .entry)) ⌝ }
 {
     let net = net_of(table);
     let targets = table::target_sets(table);
+    let readers = closure::readers_of(table, &targets);
     let b = closure::level_bases(table);
     let bases = b.at;
     let levels = b.total;
-    match search::search_table(table, net, &targets, &bases, levels, cap, list, words) {
+    match search::search_table(
+        table,
+        net,
+        &targets,
+        &bases,
+        &readers,
+        levels,
+        cap,
+        list,
+        &mut words[..cells],
+    ) {
         Outcome::Found(price, c, k) => {
             let counts = table::counts_of(table);
             let e = counts.steps;

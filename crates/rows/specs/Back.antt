@@ -8,10 +8,10 @@ use Rattle.rows.specs.declared.row.Report.{Report}
 use Rattle.rows.specs.declared.next.Pushed.{Pushed}
 use Rattle.rows.specs.Row.{known, union}
 use Rattle.rows.specs.Rules.{row, backSteps, backEnd}
-use Rattle.rows.specs.Words.{rowAt, joined, reportOf, bothReports, stepPlace}
+use Rattle.rows.specs.Words.{rowAt, joined, stepReport, bothReports, stepPlace}
 
 abbrev pub quietReport : Report
-quietReport = record { changed = false; fails = false }
+quietReport = record { changed = false; fails = false; steps = 0 }
 
 -- what N at one state adds to its steps and to their ends
 abbrev pub pushed : ℕ → Row → Row → Bool → Bool → Pushed
@@ -32,4 +32,4 @@ module _ (targets : List ℕ) (ahead end : Row) where
 
   unfoldable pub backReport : List ℕ → ℕ → Report
   backReport rows zero = quietReport
-  backReport rows (suc k) = bothReports (backReport rows k) (reportOf (backRows rows k) (stepPlace k) (pushedAt (backRows rows k) k .steps))
+  backReport rows (suc k) = bothReports (backReport rows k) (stepReport (backRows rows k) k (pushedAt (backRows rows k) k .steps))

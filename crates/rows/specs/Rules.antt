@@ -25,6 +25,12 @@ unmet target step end = without target (bitOr (step .no) (end .yes))
 abbrev pub aheadRow : (ℕ → ℕ) → (ℕ → Row) → ℕ → Row → Row
 aheadRow target step n end = row (setOf n (λ s. eqb (unmet (target s) (step s) end) 0)) (setOf n (λ s. not (eqb (bitAnd (step s .yes) (end .no)) 0)))
 
+-- the same at the states of a set alone
+abbrev pub aheadAt : (ℕ → ℕ) → (ℕ → Row) → ℕ → Row → Row
+aheadAt target step set end = row
+    (setOf 32 (λ s. member set s && eqb (unmet (target s) (step s) end) 0))
+    (setOf 32 (λ s. member set s && not (eqb (bitAnd (step s .yes) (end .no)) 0)))
+
 -- N known false, and one step left: that step
 abbrev pub lastLeft : ℕ → Row → Row → Bool → ℕ
 lastLeft target step end f = cond (f && only (unmet target step end)) (unmet target step end) 0
@@ -46,7 +52,11 @@ andOutput g a b = row (bitOr (g .yes) (bitAnd (a .yes) (b .yes))) (bitOr (g .no)
 abbrev pub andInput : Row → Row → Row
 andInput g other = row (g .yes) (bitAnd (g .no) (other .yes))
 
--- ---- what is new
+-- ---- parts of rows
+
+-- what r knows of the states of a set
+abbrev pub masked : ℕ → Row → Row
+masked set r = row (bitAnd (r .yes) set) (bitAnd (r .no) set)
 
 -- what r knows that q does not
 abbrev pub newOf : Row → Row → Row

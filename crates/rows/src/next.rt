@@ -1,31 +1,32 @@
 // N, the AND over the steps out of a state of "struck, or the end has it", forward and back.
 use crate::row::Report;
 use crate::row::Row;
-use crate::row::add;
+use crate::row::add_step;
 use crate::row::both;
 use crate::row::is_only;
 use crate::row::row_at;
 ghost use mathlib.Core.Path.{_≡_};
 ghost use Prim.Native.Nat.{_≤_};
 ghost use lib.ListN.{length, getD};
-ghost use Rattle.rows.specs.Rules.{aheadRow};
+ghost use Rattle.rows.specs.Rules.{aheadAt};
 ghost use Rattle.rows.specs.Words.{rowAt, stepPlace};
 ghost use Rattle.rows.specs.Back.{pushed, backRows, backRow, backReport};
 
-// N at each state: true where no step is left, false where a kept step's end is known false.
-pub fn ahead(targets: &[u32], rows: &[u32], n: usize, end: Row) -> Row
-    requires { ⌜ (n ≤ 32) × ((length (now targets) ≡ 32) × (length (now rows) ≡ 130)) ⌝ }
-    ensures { λ r. ⌜ r ≡ aheadRow (λ s. getD (now (targets .entry)) s 0) (λ s. rowAt (now (rows .entry)) (stepPlace s)) n end ⌝ }
+// N at each state of a set: true where no step is left, false where a kept step's end is known false.
+pub fn ahead(targets: &[u32], rows: &[u32], set: u32, end: Row) -> Row
+    requires { ⌜ (length (now targets) ≡ 32) × (length (now rows) ≡ 130) ⌝ }
+    ensures { λ r. ⌜ r ≡ aheadAt (λ s. getD (now (targets .entry)) s 0) (λ s. rowAt (now (rows .entry)) (stepPlace s)) set end ⌝ }
 {
     let mut yes = 0u32;
     let mut no = 0u32;
-    let mut s = 0;
-    while s < n {
+    let mut left = set;
+    while left != 0 {
+        let s = sets::lowest(left);
         let x = row_at(rows, 2 * s);
         let unmet = targets[s] & !(x.no | end.yes);
         yes = sets::insert_if(yes, s, unmet == 0);
         no = sets::insert_if(no, s, x.yes & end.no != 0);
-        s += 1;
+        left = sets::remove(left, s);
     }
     Row { yes: yes, no: no }
 }
@@ -77,6 +78,7 @@ pub fn go_back(targets: &[u32], rows: &mut [u32], n: usize, ahead: Row, end: Row
     let mut report = Report {
         changed: false,
         fails: false,
+        steps: 0,
     };
     let mut s = 0;
     while s < n {
@@ -90,7 +92,7 @@ pub fn go_back(targets: &[u32], rows: &mut [u32], n: usize, ahead: Row, end: Row
         );
         yes = yes | p.end.yes;
         no = no | p.end.no;
-        report = both(report, add(rows, 2 * s, p.steps));
+        report = both(report, add_step(rows, s, p.steps));
         s += 1;
     }
     Back {

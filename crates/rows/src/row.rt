@@ -3,8 +3,8 @@ ghost use mathlib.Core.Path.{_≡_};
 ghost use Prim.Native.Nat.{_+_, _<_};
 ghost use lib.ListN.{length};
 ghost use Rattle.rows.specs.Row.{turned, only, sameRow};
-ghost use Rattle.rows.specs.Rules.{newOf, isNone};
-ghost use Rattle.rows.specs.Words.{rowAt, joined, reportOf, bothReports, quiet};
+ghost use Rattle.rows.specs.Rules.{masked, newOf, isNone};
+ghost use Rattle.rows.specs.Words.{rowAt, joined, reportOf, stepReport, bothReports, quiet, stepPlace};
 
 // The states where the variable is known true, and those where it is known false.
 pub struct Row {
@@ -12,10 +12,11 @@ pub struct Row {
     pub no: u32,
 }
 
-// What a rule did: whether it added a bit, and whether something is now known both ways.
+// What a rule did: whether it added a bit, whether something is now known both ways, and the states whose steps got a bit.
 pub struct Report {
     pub changed: bool,
     pub fails: bool,
+    pub steps: u32,
 }
 
 // The row itself, or its dual, known true and known false exchanged.
@@ -37,6 +38,7 @@ pub fn both(a: Report, b: Report) -> Report
     Report {
         changed: a.changed | b.changed,
         fails: a.fails | b.fails,
+        steps: a.steps | b.steps,
     }
 }
 
@@ -63,6 +65,16 @@ pub fn new_of(r: Row, q: Row) -> Row
     Row {
         yes: r.yes & !q.yes,
         no: r.no & !q.no,
+    }
+}
+
+// What r knows of the states of a set.
+pub fn mask(set: u32, r: Row) -> Row
+    ensures { λ x. ⌜ x ≡ masked set r ⌝ }
+{
+    Row {
+        yes: r.yes & set,
+        no: r.no & set,
     }
 }
 
@@ -107,5 +119,20 @@ pub fn add(words: &mut [u32], at: usize, x: Row) -> Report
     Report {
         changed: yes != old.yes || no != old.no,
         fails: yes & no != 0,
+        steps: 0,
+    }
+}
+
+// The same for the row of the steps out of s.
+pub fn add_step(words: &mut [u32], s: usize, x: Row) -> Report
+    requires { ⌜ (s < 32) × (length (now words) ≡ 130) ⌝ }
+    ensures { λ r. ⌜ r ≡ stepReport (now (words .entry)) s x ⌝ }
+    ensures { λ _. ⌜ now (words .exit) ≡ joined (now (words .entry)) (stepPlace s) x ⌝ }
+{
+    let r = add(words, 2 * s, x);
+    Report {
+        changed: r.changed,
+        fails: r.fails,
+        steps: sets::insert_if(0, s, r.changed),
     }
 }

@@ -1,7 +1,7 @@
 -- One step literal more: the rows with its bit lie between the literals with it and their closure.
 use Prim.Native.Nat.{ℕ, _+_, _*_, _-_, _^_, _≤_, _<_}
 use mathlib.Core.Path.{_≡_, refl, sym, ap, _∙_}
-use mathlib.Core.Bool.{Bool, true, cond}
+use mathlib.Core.Bool.{Bool, true, false, cond}
 use mathlib.Core.Logic.{_⊎_, inl, inr, ⊎-elim}
 use mathlib.Core.List.{List, _∷_, List·Memᴰ, List·Memᴰ·head, List·Memᴰ·tail, List·Memᴰ·cases-cons}
 use native.Mathlib.Decide.{ℕ-discrete}
@@ -73,8 +73,17 @@ module _ (T : Table) (wf : Wellformed T) (rows words : List ℕ) (sized : Sized 
   -- ---- rows
 
   -- the other rows stay
-  row-other : (p : ℕ) → 64 ≤ p → rowAt next p ≡ rowAt rows p
+  pub row-other : (p : ℕ) → 64 ≤ p → rowAt (withStep T rows sign j) p ≡ rowAt rows p
+  unfolding next
   row-other p h = λ i. record { yes = word-other p (omega (arith, at-below)) i; no = word-other (p + 1) (omega (arith, at-below)) i }
+
+  -- and the step rows of other states
+  pub step-row-other : (s : ℕ) → ¬ (s ≡ stepAt T j .from) → rowAt (withStep T rows sign j) (stepPlace s) ≡ rowAt rows (stepPlace s)
+  unfolding next at
+  step-row-other s d = λ i. record {
+    yes = word-other (wordOf true s) (λ e. d (word-apart true sign s (stepAt T j .from) e .1)) i;
+    no = word-other (wordOf false s) (λ e. d (word-apart false sign s (stepAt T j .from) e .1)) i;
+  }
 
   step-only : (a : Bool) (s t : ℕ) → known (rowAt next (stepPlace s)) a t ≡ true
       → (known (rowAt rows (stepPlace s)) a t ≡ true) ⊎ ((sign ≡ a) × (stepAt T j .from ≡ s) × (stepAt T j .to ≡ t))

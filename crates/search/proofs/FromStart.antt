@@ -17,7 +17,7 @@ use Rattle.search.specs.Search.{unfound, search, answerOf}
 use Rattle.search.specs.TableSearch.{tableSearch, searchUnder}
 use Rattle.search.specs.Answer.{outcomeOf, listAfter}
 use Rattle.search.specs.Finds.{finished, written, Gives}
-use Rattle.search.specs.Stands.{closureOf, StandsAt, GoesOn, Somewhere, GivesFrom, Comes, walkFrom, searchFrom}
+use Rattle.search.specs.Stands.{closureOf, StandsAt, GoesOn, Resting, Somewhere, GivesFrom, Comes, walkFrom, searchFrom}
 use Rattle.search.proofs.Giving.{gives-same, gives-answer, gives-list}
 use Rattle.search.proofs.WalkOn.{walk-passed, search-marked}
 use lib.ListN.{length}
@@ -54,8 +54,8 @@ module _ (T : Table) (cap : ℕ) where
       there : Comes T Unfound M bytes [] unfound (Unsettled k)
       there = subst (Comes T Unfound M bytes [] unfound) told comes
 
-      pub start-stands : Somewhere (GoesOn T k M Unfound bytes)
-      start-stands = ([], there .0, unfound, there .1)
+      pub start-stands : Resting T M × Somewhere (GoesOn T k M Unfound bytes)
+      start-stands = (there .3, ([], there .0, unfound, there .1))
 
       pub start-onward : (after : List ℕ) (r : Finished) → GivesFrom (GoesOn T k M Unfound bytes) T (λ R n b. walkFrom T cap k R n b 0) after r
           → Gives T (searchFrom T cap 0 [] unfound 0) after r

@@ -20,6 +20,9 @@ pub mod Closing
 pub mod WalkOn
 pub mod Chosen
 pub mod Zeroed
+pub mod ChosenRest
+pub mod SameWords
+pub mod Lent
 pub mod StepMarks
 pub mod Fewer
 pub mod Reached

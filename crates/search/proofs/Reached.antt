@@ -25,14 +25,14 @@ use Rattle.search.specs.Search.{Best, find, undercuts}
 use Rattle.search.specs.TableSearch.{markPrice}
 use Rattle.search.specs.StepRows.{isUnsettled, rowsPrice, keptBytes}
 use Rattle.search.specs.Finds.{beats, Stores}
-use Rattle.search.specs.Stands.{Fine, closureOf, stepLiterals, Comes}
+use Rattle.search.specs.Stands.{Fine, closureOf, stepLiterals, Resting, Comes}
 use Rattle.search.proofs.Closing.{closed-clash, closed-marked, closed-exact}
 use Rattle.search.proofs.StepMarks.{unsettled-mark, price-mark, list-mark}
 use Rattle.search.proofs.Giving.{stored-beats}
 use Rattle.search.proofs.WalkOn.{walk-settled, search-clash, search-dear, search-marked}
 
 module _ (T : Table) (wf : Wellformed T) (P : List (Literal ℕ)) (fine : Fine (length (T .steps)) P)
-    (c : Closure) (M : Memory) (closes : Closes T (stepLiterals P) c M) (best : Held) (bytes : List ℕ) (b : Best) (stores : Stores T b best bytes) where
+    (c : Closure) (M : Memory) (closes : Closes T (stepLiterals P) c M) (rest : c .fails ≡ false → Resting T M) (best : Held) (bytes : List ℕ) (b : Best) (stores : Stores T b best bytes) where
   -- it fails
   pub comes-failed : c .fails ≡ true → Comes T best M bytes P b (Ended best)
   comes-failed e = (b, stores, λ cap j made h. search-clash T cap j P b made (closed-clash T wf P fine c M closes .0 e))
@@ -99,4 +99,5 @@ module _ (T : Table) (wf : Wellformed T) (P : List (Literal ℕ)) (fine : Fine (
           stores = stores;
         },
         same-price price p true cheap,
+        rest e,
       )

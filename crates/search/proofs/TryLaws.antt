@@ -10,7 +10,7 @@ use lib.Dec.{eqb}
 use lib.ListN.{length}
 use Rattle.table.specs.Table.{Table}
 use Rattle.table.specs.Facts.{Wellformed}
-use Rattle.circuit.specs.Logic.{Literal, pos}
+use Rattle.circuit.specs.Logic.{Literal}
 use Rattle.circuit.specs.Variables.{variableCount}
 use Rattle.closure.specs.Closure.{Marks}
 use Rattle.propagate.specs.Memory.{Memory}
@@ -24,11 +24,11 @@ use Rattle.search.specs.declared.best.Walked.{Walked as Finished}
 use Rattle.search.specs.declared.best.Walked.the-variants.{Passed, Cut}
 use Rattle.search.specs.declared.reach.Reached.{Reached}
 use Rattle.search.specs.declared.reach.Reached.the-variants.{Ended, Unsettled}
-use Rattle.search.specs.Search.{Best, Walked, capped, choose}
+use Rattle.search.specs.Search.{Best, Walked, passed}
 use Rattle.search.specs.TableSearch.{markPrice}
 use Rattle.search.specs.Counted.{counted}
 use Rattle.search.specs.Finds.{Stores, Gives}
-use Rattle.search.specs.Stands.{Fine, StandsAt, GoesOn, Somewhere, GivesFrom, Comes, closureOf, stepsFrom, walkFrom, searchFrom, struckFrom}
+use Rattle.search.specs.Stands.{Fine, StandsAt, GoesOn, Resting, Somewhere, GivesFrom, Comes, closureOf, stepsFrom, walkFrom, searchFrom, tryFrom}
 use Rattle.search.proofs.Step.{andThen}
 use Rattle.search.proofs.Cap.{made, pursue-capped, capped-made}
 use Rattle.search.proofs.Stand.{Stands, fine-choice, stands-choice}
@@ -51,7 +51,7 @@ module _ (T : Table) (wf : Wellformed T) (count : Choices) (j : ℕ) (rows : Lis
 
   -- from the cheapest find b
   abbrev tried : Best → Walked
-  tried b = choose (capped (count .cap)) (closureOf T) (markPrice T) chosenLiteral P b (count .made) (walkFrom T (count .cap) (suc j))
+  tried = λ b. tryFrom T sign (count .cap) j P b (count .made)
 
   -- where the search stands, as its own laws say it
   stands : Stands (closure-is-right T wf) j P m
@@ -74,6 +74,21 @@ module _ (T : Table) (wf : Wellformed T) (count : Choices) (j : ℕ) (rows : Lis
   pub try-cut : AtCap ≡ counted count → (b : Best) (bytes : List ℕ) → Gives T (tried b) bytes (Cut (count .made))
   try-cut e b bytes = gives-same T bytes (Cut (count .made)) (choose-capped T (count .cap) (suc j) chosenLiteral P b (count .made) (counted-cap count e)) refl
 
+  -- what was passed is within it
+  pub try-within : count .made ≤ count .cap → (b : Best) (bytes : List ℕ) (best : Held) (c : ℕ) → Gives T (tried b) bytes (Passed best c) → c ≤ count .cap
+  try-within h b bytes best c g = go (eqb (count .made) (count .cap)) refl
+    where
+      ended : tried b ≡ passed (gives-passed T (tried b) bytes best c g .0) c
+      ended = gives-passed T (tried b) bytes best c g .1
+
+      go : (x : Bool) → eqb (count .made) (count .cap) ≡ x → c ≤ count .cap
+      go true e = omega (arith, h, ap made (sym ended ∙ choose-capped T (count .cap) (suc j) chosenLiteral P b (count .made) e))
+      go false e = omega (
+        arith,
+        ap made (sym ended ∙ choose-next T (count .cap) (suc j) chosenLiteral P b (count .made) e),
+        capped-made (pursue-capped (count .cap) (closureOf T) (markPrice T) (stepsFrom T (suc j)) Q b (count .made + 1) (omega (arith, h, eqb-false (count .made) (count .cap) e))),
+      )
+
   -- below it
   module _ (more : Choices) (next : Next more ≡ counted count) (b : Best) where
     below : eqb (count .made) (count .cap) ≡ false
@@ -90,16 +105,6 @@ module _ (T : Table) (wf : Wellformed T) (count : Choices) (j : ℕ) (rows : Lis
 
     within-cap : count .made ≤ count .cap → more .made ≤ more .cap
     within-cap h = rw one-more (omega (arith, eqb-false (count .made) (count .cap) below))
-
-    -- what was passed is within the cap
-    pub try-within : count .made ≤ count .cap → (bytes : List ℕ) (best : Held) (c : ℕ) → Gives T (tried b) bytes (Passed best c) → c ≤ count .cap
-    try-within h bytes best c g =
-        omega (
-          arith,
-          ap made (sym (gives-passed T (tried b) bytes best c g .1) ∙ as-search),
-          capped-made (pursue-capped (more .cap) (closureOf T) (markPrice T) (stepsFrom T (suc j)) Q b (more .made) (within-cap h)),
-          ap (λ (d : Choices). d .cap) one-more,
-        )
 
     module _ (best : Held) (M : Memory) (bytes : List ℕ) (reached : Reached) (comes : Comes T best M bytes Q b reached) where
       -- an end was reached
@@ -119,8 +124,8 @@ module _ (T : Table) (wf : Wellformed T) (count : Choices) (j : ℕ) (rows : Lis
 
         -- the search stands there with fewer steps unsettled, and within the cap
         pub try-goes : count .made ≤ count .cap
-            → (unsettledSteps T (M .rows) < unsettledSteps T rows) × (more .made ≤ more .cap) × Somewhere (GoesOn T k M best bytes)
-        try-goes h = (unsettled-falls T wf j k rows (M .rows) P m (there .0) sign at s, within-cap h, (Q, there .0, b, there .1))
+            → (unsettledSteps T (M .rows) < unsettledSteps T rows) × (more .made ≤ more .cap) × Resting T M × Somewhere (GoesOn T k M best bytes)
+        try-goes h = (unsettled-falls T wf j k rows (M .rows) P m (there .0) sign at s, within-cap h, there .3, (Q, there .0, b, there .1))
 
         -- a later step
         later : suc j ≤ k
@@ -143,19 +148,19 @@ module _ (T : Table) (wf : Wellformed T) (count : Choices) (j : ℕ) (rows : Lis
 -- ---- both tries
 
 module _ (T : Table) (count : Choices) (j : ℕ) (rows : List ℕ) (P : List (Literal ℕ)) (m : Marks) (at : StandsAt T j rows P m) (b : Best) where
-  abbrev pub keptTry : Walked
-  keptTry = choose (capped (count .cap)) (closureOf T) (markPrice T) (pos j) P b (count .made) (walkFrom T (count .cap) (suc j))
+  abbrev keptTry : Walked
+  keptTry = tryFrom T true (count .cap) j P b (count .made)
 
-  split : walkFrom T (count .cap) j P m b (count .made) ≡ andThen keptTry (struckFrom T (count .cap) j P)
+  split : walkFrom T (count .cap) j P m b (count .made) ≡ andThen keptTry (tryFrom T false (count .cap) j P)
   split = walk-unsettled T (count .cap) P m b (count .made) j (at .inside) (at .unsettled)
 
   -- the kept try reached the cap
   pub kept-cut : (bytes : List ℕ) (c : ℕ) → Gives T keptTry bytes (Cut c) → Gives T (walkFrom T (count .cap) j P m b (count .made)) bytes (Cut c)
-  kept-cut bytes c g = gives-same T bytes (Cut c) split (gives-cut T keptTry (struckFrom T (count .cap) j P) bytes c g)
+  kept-cut bytes c g = gives-same T bytes (Cut c) split (gives-cut T keptTry (tryFrom T false (count .cap) j P) bytes c g)
 
   -- or it passed, and the struck try comes after
   pub kept-then : (bytes : List ℕ) (best : Held) (c : ℕ) → Gives T keptTry bytes (Passed best c) → (after : List ℕ) (r : Finished)
-      → ((b′ : Best) → Stores T b′ best bytes → Gives T (struckFrom T (count .cap) j P b′ c) after r) → Gives T (walkFrom T (count .cap) j P m b (count .made)) after r
+      → ((b′ : Best) → Stores T b′ best bytes → Gives T (tryFrom T false (count .cap) j P b′ c) after r) → Gives T (walkFrom T (count .cap) j P m b (count .made)) after r
   kept-then bytes best c g after r rest =
       let p = gives-passed T keptTry bytes best c g in
-      gives-same T after r (split ∙ ap (λ (w : Walked). andThen w (struckFrom T (count .cap) j P)) (p .1)) (rest (p .0) (p .2))
+      gives-same T after r (split ∙ ap (λ (w : Walked). andThen w (tryFrom T false (count .cap) j P)) (p .1)) (rest (p .0) (p .2))

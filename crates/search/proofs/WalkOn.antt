@@ -11,11 +11,11 @@ use lib.Seq.{drop-cons}
 use Rattle.table.specs.Table.{Table}
 use Rattle.ctl.specs.Levels.{below}
 use Rattle.ctl.proofs.Tabulate.{length-tabulate, getD-tabulate}
-use Rattle.circuit.specs.Logic.{Literal, pos}
+use Rattle.circuit.specs.Logic.{Literal}
 use Rattle.closure.specs.Closure.{Marks, markAt, isKnown, Progress, clash, marked}
 use Rattle.search.specs.Search.{Best, find, undercuts, Walked, passed, cut, capped, choose, walk}
 use Rattle.search.specs.TableSearch.{markPrice}
-use Rattle.search.specs.Stands.{closureOf, stepsFrom, walkFrom, searchFrom, struckFrom}
+use Rattle.search.specs.Stands.{closureOf, stepsFrom, walkFrom, searchFrom, tryFrom}
 use Rattle.search.proofs.Step.{pursued, chosen, andThen, walk-known, walk-unknown}
 
 module _ (T : Table) where
@@ -52,7 +52,7 @@ module _ (T : Table) where
 
     -- an unsettled step is chosen kept and then struck
     pub walk-unsettled : (j : ℕ) → j < length (T .steps) → isKnown (markAt m j) ≡ false
-        → walkFrom T cap j P m best made ≡ andThen (choose (capped cap) (closureOf T) (markPrice T) (pos j) P best made (walkFrom T cap (suc j))) (struckFrom T cap j P)
+        → walkFrom T cap j P m best made ≡ andThen (tryFrom T true cap j P best made) (tryFrom T false cap j P)
     walk-unsettled j h unsettled-at =
         ap (λ (js : List ℕ). walk (capped cap) (closureOf T) (markPrice T) js P m best made) (steps-cons j h)
         ∙ walk-unknown (capped cap) (closureOf T) (markPrice T) j (stepsFrom T (suc j)) P m best made unsettled-at

@@ -1,5 +1,5 @@
 -- Words of 0: they know no level, so the rows with them still lie between the literals and their closure; and with rows of 0 nothing is known.
-use Prim.Native.Nat.{ℕ, _+_, _*_, _-_, _<_}
+use Prim.Native.Nat.{ℕ, _+_, _*_, _-_, _≤_, _<_}
 use mathlib.Core.Path.{_≡_, refl, sym, ap, _∙_}
 use mathlib.Core.Bool.{Bool, true, false, cond, false≢true}
 use mathlib.Core.List.{List, [], List·Memᴰ·not-nil}
@@ -81,7 +81,7 @@ none-between T n = record {
     none-level i m sign s false true = zero-row 130 (nodePlace i) sign s
     none-level i m sign s false false = zero-row n _ sign s
 
-pub none-sized : (T : Table) (n : ℕ) → n ≡ levelTotal T → Sized T (memory (replicate 130 0) (replicate n 0))
+pub none-sized : (T : Table) (n : ℕ) → levelTotal T ≤ n → Sized T (memory (replicate 130 0) (replicate n 0))
 none-sized T n e = record {
   rows-size = refl;
   words-size = rw length-replicate (omega arith);

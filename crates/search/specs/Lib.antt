@@ -5,4 +5,5 @@ pub mod Counted
 pub mod Answer
 pub mod StepRows
 pub mod Finds
+pub mod KeptWords
 pub mod Stands

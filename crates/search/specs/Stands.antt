@@ -7,16 +7,17 @@ use mathlib.Core.List.{List, map}
 use lib.ListN.{length, getD, drop}
 use Rattle.table.specs.Table.{Table, tableOf}
 use Rattle.ctl.specs.Levels.{below}
-use Rattle.circuit.specs.Logic.{Literal, neg}
+use Rattle.circuit.specs.Logic.{Literal}
 use Rattle.circuit.specs.Variables.{Var, step, variableCount}
 use Rattle.closure.specs.declared.net.Net.{Net}
 use Rattle.closure.specs.declared.sweep.Closure.{Closure}
 use Rattle.closure.specs.Closure.{Marks, markAt, isKnown, known, Progress, marked, closure}
 use Rattle.closure.specs.Numbered.{numberedClauses}
-use Rattle.closure.specs.Knowledge.{Sized, levelTotal}
+use Rattle.closure.specs.Knowledge.{knowledge, Sized, levelTotal}
 use Rattle.propagate.specs.Memory.{Memory, memory}
 use Rattle.closure.specs.Inside.{literal}
 use Rattle.closure.specs.Closes.{stepKnown, Between, Closes}
+use Rattle.closure.specs.Watched.{RestBut}
 use Rattle.closure.specs.Setting.{Setting}
 use Rattle.closure.specs.Given.{Within, Consistent}
 use Rattle.search.specs.declared.best.Best.{Best as Held}
@@ -49,9 +50,9 @@ module _ (T : Table) where
   abbrev pub searchFrom : ℕ → ℕ → List (Literal ℕ) → Best → ℕ → Walked
   searchFrom cap j P best made = pursue closureOf (markPrice T) P best made (walkFrom cap j)
 
-  -- step j is chosen struck
-  abbrev pub struckFrom : ℕ → ℕ → List (Literal ℕ) → Best → ℕ → Walked
-  struckFrom cap j P best made = choose (capped cap) closureOf (markPrice T) (neg j) P best made (walkFrom cap (suc j))
+  -- step j is chosen, kept or struck
+  abbrev pub tryFrom : Bool → ℕ → ℕ → List (Literal ℕ) → Best → ℕ → Walked
+  tryFrom sign cap j P best made = choose (capped cap) closureOf (markPrice T) (record { sign = sign; var = j }) P best made (walkFrom cap (suc j))
 
 -- ---- where it stands
 
@@ -75,26 +76,31 @@ pub record GoesOn (T : Table) (j : ℕ) (M : Memory) (best : Held) (bytes : List
   pub between : Between T (stepLiterals P) M
   pub stores : Stores T b best bytes
 
+-- All cells of the rows are at rest.
+abbrev pub Resting : Table → Memory → Type 0
+Resting T M = RestBut T 0 (knowledge T M)
+
 -- ---- what the functions are handed, and what they leave
 
--- the words are those of the levels, and a find has room for a byte for each step
-pub record Handed (table : List ℕ) (net : Net) (targets bases rows words bytes : List ℕ) : Type 0 where
-  pub setting : Setting table net targets bases
+-- the words have room for those of the levels, and a find for a byte for each step
+pub record Handed (table : List ℕ) (net : Net) (targets bases readers : List ℕ) (levels : ℕ) (rows words bytes : List ℕ) : Type 0 where
+  pub setting : Setting table net targets bases readers
+  pub all-levels : levels ≡ levelTotal (tableOf table)
   pub rows-size : length rows ≡ 130
   pub small-rows : (k : ℕ) → getD rows k 0 < 2 ^ 32
-  pub words-size : length words ≡ levelTotal (tableOf table)
+  pub words-size : levelTotal (tableOf table) ≤ length words
   pub room : length (tableOf table .steps) ≤ length bytes
 
--- What comes of P: the cheapest find, whatever the cap and wherever the search goes on; or the step at which it stands, cheap enough to go on.
+-- What comes of P: the cheapest find, whatever the cap and wherever the search goes on; or the step at which it stands, cheap enough to go on and at rest.
 module _ (T : Table) (best : Held) (M : Memory) (bytes : List ℕ) (P : List (Literal ℕ)) (b : Best) where
   abbrev pub Comes : Reached → Type 0
   Comes (Ended after) = (b′ : Best) × Stores T b′ after bytes × ((cap j made : ℕ) → j ≤ length (T .steps) → searchFrom T cap j P b made ≡ passed b′ made)
-  Comes (Unsettled j) = (m : Marks) × GoesOn T j M best bytes P m b × (undercuts (markPrice T m) b ≡ true)
+  Comes (Unsettled j) = (m : Marks) × GoesOn T j M best bytes P m b × (undercuts (markPrice T m) b ≡ true) × Resting T M
 
 -- Of all P whose closure the rows have, whatever the words.
 abbrev pub ComesOf : Table → Closure → Held → List ℕ → List ℕ → List ℕ → Reached → Type 0
 ComesOf T c best rows bytes after r = (words : List ℕ) (P : List (Literal ℕ)) (b : Best) → Fine (length (T .steps)) P
-    → Closes T (stepLiterals P) c (memory rows words) → Stores T b best bytes → Comes T best (memory rows words) after P b r
+    → Closes T (stepLiterals P) c (memory rows words) → (c .fails ≡ false → Resting T (memory rows words)) → Stores T b best bytes → Comes T best (memory rows words) after P b r
 
 -- Of all P that the rows lie between it and its closure.
 pub record Reaches (T : Table) (best : Held) (before M : Memory) (bytes after : List ℕ) (r : Reached) : Type 0 where

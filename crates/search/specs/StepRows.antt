@@ -28,3 +28,7 @@ module _ (T : Table) (rows : List ℕ) where
   withStep sign j =
       let at : ℕ = wordOf sign (stepAt T j .from) in
       set rows at (setOf 32 (λ t. member (getD rows at 0) t || eqb t (stepAt T j .to)))
+
+-- the states whose steps that changes, as a set: the one that step j leaves
+abbrev pub changedBy : Table → ℕ → ℕ
+changedBy T j = setOf 32 (λ t. member 0 t || eqb t (stepAt T j .from))

@@ -13,7 +13,7 @@ ghost use Rattle.table.specs.declared.refusal.Verdict.the-variants.{Accepted};
 ghost use Rattle.table.specs.Table.{tableOf};
 ghost use Rattle.table.specs.Accept.{tableVerdict};
 ghost use Rattle.rows.specs.Steps.{stepBit};
-ghost use Rattle.search.specs.StepRows.{isUnsettled, rowsPrice, keptBytes, withStep};
+ghost use Rattle.search.specs.StepRows.{isUnsettled, rowsPrice, keptBytes, withStep, changedBy};
 
 // The lowest step that is known neither way, or the number of steps.
 pub fn lowest_unsettled(table: &[u8], rows: &[u32]) -> usize
@@ -90,4 +90,14 @@ pub fn with_step(table: &[u8], rows: [u32; 130], j: usize, kept: bool) -> [u32; 
     let mut next = rows;
     next[at] = sets::insert(rows[at], x.to);
     next
+}
+
+// The state whose steps that changes, as a set.
+pub fn changed_by(table: &[u8], j: usize) -> u32
+    requires { ⌜ (tableVerdict (now table) ≡ Accepted) × (j < length (tableOf (now table) .steps)) ⌝ }
+    ensures { λ r. ⌜ r ≡ changedBy (tableOf (now (table .entry))) j ⌝ }
+{
+    let steps = table::steps_part(table);
+    let x = table::step_at(steps, j);
+    sets::insert(0, x.from)
 }

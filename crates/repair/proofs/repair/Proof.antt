@@ -77,7 +77,7 @@ returns-4 c =
 run-requires : tie.Need-run-requires
 run-requires c κs =
     let k = c .before .before .before .before .before .before in
-    (ok-at k, (omega (arith, steps-at k), omega (arith, k .variable-count .ensures)))
+    (ok-at k, (omega (arith, steps-at k), (omega (arith, k .variable-count .ensures), k .variable-count .ensures)))
 
 clear-bytes-requires : tie.Need-clear-bytes-requires
 clear-bytes-requires c κs = search needs

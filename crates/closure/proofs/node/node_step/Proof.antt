@@ -37,7 +37,7 @@ no-states n = empty n _ (setOf-lt n _) (λ s h. member-setOf n _ s ∙ and-false
 
 -- the model's step for an operator
 abbrev stepOf : tie.Start → List ℕ → Operator → Stepped
-stepOf s bases o = nodeStep (now (s .args .table)) (now (s .args .targets)) bases (s .args .n) (s .args .down) (s .args .i) o (memory (now (s .args .rows)) (now (s .args .words)))
+stepOf s bases o = nodeStep (now (s .args .table)) (now (s .args .targets)) bases (s .args .n) (s .args .look) (s .args .down) (s .args .i) o (memory (now (s .args .rows)) (now (s .args .words)))
 
 -- the step of AND or OR, of AX or EX, and of the levels of a fixed point that lie from k on
 abbrev paired : tie.Start → Bool → ℕ → Stepped
@@ -46,10 +46,10 @@ paired s same b =
     (bothStep (s .args .i) same (s .args .x .a) b (memory (now (s .args .rows)) (now (s .args .words))))
 
 abbrev ahead : tie.Start → Bool → Stepped
-ahead s e = nextStep (now (s .args .targets)) (s .args .n) (s .args .i) e (s .args .x .a) (memory (now (s .args .rows)) (now (s .args .words)))
+ahead s e = nextStep (now (s .args .targets)) (s .args .n) (s .args .look) (s .args .i) e (s .args .x .a) (memory (now (s .args .rows)) (now (s .args .words)))
 
 abbrev levels : tie.Start → Family → ℕ → Bool → ℕ → Stepped
-levels s family b e k = levelsFrom (now (s .args .targets)) (s .args .n) (fixpointAt family (s .args .i) e (s .args .x .a) b k) (s .args .down) (s .args .n) (memory (now (s .args .rows)) (now (s .args .words))) .done
+levels s family b e k = levelsFrom (now (s .args .targets)) (s .args .n) (fixpointAt family (s .args .i) e (s .args .x .a) b k) (s .args .down) (s .args .look) (s .args .n) (memory (now (s .args .rows)) (now (s .args .words))) .done
 
 -- an even kind is of every path
 is-even : (b : Bool) → b ≡ isEvery (cond b every some)

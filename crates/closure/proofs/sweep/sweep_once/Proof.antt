@@ -1,83 +1,102 @@
--- `sweep_once` meets its contract: K, the initial states and the nodes, one after the other.
-use Prim.Native.Nat.{ℕ, _-_}
-use mathlib.Core.Path.{_≡_, ap, _∙_}
-use mathlib.Core.Bool.{Bool, true, false, cond}
-use mathlib.Core.Logic.{⊎-elim}
+-- `sweep_once` meets its contract: K, the initial states and the nodes are looked at one after the other.
+use Prim.Native.Nat.{ℕ}
+use mathlib.Core.Path.{_≡_, refl, sym, subst, _∙_}
+use mathlib.Core.Logic.{_⊎_, inl, inr, ⊎-elim}
 use native.Mathlib.Omega.{arith}
-use denote.Ref.{now}
-use Rattle.closure.specs.Sweep.{startStep, nodesFrom, startsStep, sweep}
-use Rattle.propagate.specs.Memory.{Stepped, Visit, memory, stepped}
-use Rattle.propagate.proofs.Chain.{after}
-use Rattle.closure.proofs.SettingFacts.{few-states, few-nodes, some-node}
 use borrow.Author.Needs.{needs}
+use lib.ListN.{length}
+use denote.Ref.{now}
+use Rattle.table.specs.Table.{tableOf}
+use Rattle.rows.specs.declared.row.Report.{Report}
+use Rattle.propagate.specs.Memory.{memory}
+use Rattle.closure.specs.Rest.{RestStart}
+use Rattle.closure.specs.Looked.{Always, Swept, Looked}
+use Rattle.closure.proofs.SettingFacts.{nodes-are}
+use Rattle.closure.proofs.Looking.{looked-so, looked-then}
+use Rattle.closure.proofs.VisitAll.{looked-failed}
 use Rattle.closure.proofs.sweep.sweep_once.Statement.{statement}
 use Rattle.closure.proofs.sweep.sweep_once.Tie as tie
 
--- what the code takes for the nodes still at rest
-where-changed : (changed : Bool) (still resting : ℕ) → changed ≡ true → still ≡ 0 → still ≡ cond changed 0 resting
-where-changed changed still resting c e = simp c e
+kept-visit-requires : tie.Need-kept-visit-requires
+kept-visit-requires c κs = let p = c .before .before .before .before .before .before .before .before .before .pre in (p .0, (p .1 .0 .rows-size, p .1 .1))
 
-where-not : (changed : Bool) (still resting : ℕ) → changed ≡ false → still ≡ resting → still ≡ cond changed 0 resting
-where-not changed still resting c e = simp c e
+-- K is looked at
+kept-looked : (c : tie.After-kept-visit)
+    → let s = c .before .before .before .before .before .before .before .before .before .before in let v = c .kept-visit in
+    Looked (tableOf (now (s .args .table))) (λ k. k ≡ 32) Always (now (s .args .looks)) (v .last .1 .1 .1 .1 .1 .1 .0) (memory (now (s .args .rows)) (now (s .args .words))) (memory (v .last .1 .1 .1 .1 .1 .0) (now (s .args .words)))
+    (v .result)
+kept-looked c = c .kept-visit .ensures (now (c .before .before .before .before .before .before .before .before .before .before .args .words)) (c .before .before .before .before .before .before .before .before .before .before .pre .1 .0)
 
-kept-states-requires : tie.Need-kept-states-requires
-kept-states-requires c κs = let p = c .before .before .before .before .before .before .pre in (few-states (p .0), (p .0 .targets-size, p .1 .rows-size))
-
-sub-start-step : tie.Need-sub-start-step
-sub-start-step c = some-node (c .before .before .before .before .before .before .before .before .before .before .before .pre .0)
-
-start-step-requires : tie.Need-start-step-requires
-start-step-requires c κs =
-    let p = c .before .before .before .before .before .before .before .before .before .before .before .pre in
-    (omega (arith, some-node (p .0), few-nodes (p .0)), c .before .before .before .before .kept-states .kept .1 .0 ∙ p .1 .rows-size)
+start-visit-requires : tie.Need-start-visit-requires
+start-visit-requires c κs =
+    let v = c .before .before .before .before .before .before .kept-visit in
+    let p = c .before .before .before .before .before .before .before .before .before .before .before .before .before .before .before .before .pre in
+    (p .0, (v .kept .1 .1 .1 .1 .1 .0 ∙ p .1 .0 .rows-size, v .kept .1 .1 .1 .1 .1 .1 .0 ∙ p .1 .1))
 
 both-requires : tie.Need-both-requires
 both-requires c κs = search needs
 
-nodes-step-requires : tie.Need-nodes-step-requires
-nodes-step-requires c κs =
-    let p = c .before .before .before .before .before .before .before .before .before .before .before .before .before .before .before .before .before .before .pre in
-    (p .0, (c .before .before .before .before .before .before .start-step .kept .0 ∙ c .before .before .before .before .before .before .before .before .before .before .before .kept-states .kept .1 .0 ∙ p .1 .rows-size, p .1 .words-size))
+-- and so are the initial states
+starts-looked : (c : tie.After-both)
+    → let s = c .before .before .before .before .before .before .before .before .before .before .before .before .before .before .before .before .before .before .before .before .before .before in let v = c .before .before .before .before .before .start-visit in
+    Looked (tableOf (now (s .args .table))) (λ k. k ≡ 32) (RestStart (tableOf (now (s .args .table)))) (now (s .args .looks)) (v .last .1 .1 .1 .1 .1 .1 .0) (memory (now (s .args .rows)) (now (s .args .words)))
+    (memory (v .last .1 .1 .1 .1 .1 .0) (now (s .args .words))) (c .both .result)
+starts-looked c =
+    let s = c .before .before .before .before .before .before .before .before .before .before .before .before .before .before .before .before .before .before .before .before .before .before in
+    let v = c .before .before .before .before .before .start-visit in
+    let first = kept-looked (c .before .before .before .before .before .before .before .before .before .before .before .before) in
+    subst (Looked (tableOf (now (s .args .table))) (λ k. k ≡ 32) (RestStart (tableOf (now (s .args .table)))) (now (s .args .looks)) (v .last .1 .1 .1 .1 .1 .1 .0) (memory (now (s .args .rows)) (now (s .args .words)))
+    (memory (v .last .1 .1 .1 .1 .1 .0) (now (s .args .words)))) (sym (c .both .ensures))
+    (looked-so (λ f k e. inl e) (λ z. z .1) (looked-then first (v .ensures (now (s .args .words)) (first .advance .sized))))
+
+same-length : tie.Need-same-length
+same-length c = c .before .before .before .before .before .before .start-visit .kept .1 .1 .1 .1 .1 .0 ∙ c .before .before .before .before .before .before .before .before .before .before .before .before .before .kept-visit .kept .1 .1 .1 .1 .1 .0
+
+same-length-2 : tie.Need-same-length-2
+same-length-2 c = c .before .before .before .before .before .before .start-visit .kept .1 .1 .1 .1 .1 .1 .0 ∙ c .before .before .before .before .before .before .before .before .before .before .before .before .before .kept-visit .kept .1 .1 .1 .1 .1 .1 .0
+
+returns : tie.Need-returns
+returns c = looked-failed (c .if1 .taken) (λ z. z) (starts-looked (c .before))
+
+nodes-visit-requires : tie.Need-nodes-visit-requires
+nodes-visit-requires c κs =
+    let p = c .before .before .before .before .before .before .before .before .before .before .before .before .before .before .before .before .before .before .before .before .before .before .before .before .before .before .pre in
+    let first = starts-looked (c .before .before .before .before) in
+    (p .0, (first .advance .sized, first .size ∙ p .1 .1))
 
 both-requires-2 : tie.Need-both-requires-2
 both-requires-2 c κs = search needs
 
-same-length : tie.Need-same-length
-same-length c = search needs
+same-length-3 : tie.Need-same-length-3
+same-length-3 c = c .before .before .before .before .before .before .before .nodes-visit .kept .1 .1 .1 .1 .1 .0 ∙ c .before .before .before .before .before .before .before .before .before .before .before .before .before .before .before .before .before .start-visit .kept .1 .1 .1 .1 .1 .0 ∙ c .before .before .before .before .before .before .before .before .before .before .before .before .before .before .before .before .before .before .before .before .before .before .before .before .kept-visit .kept .1 .1 .1 .1 .1 .0
 
-same-length-2 : tie.Need-same-length-2
-same-length-2 c = search needs
+same-length-4 : tie.Need-same-length-4
+same-length-4 c = c .before .before .before .before .before .before .before .nodes-visit .kept .1 .1 .1 .1 .1 .1 .0
 
-returns : tie.Need-returns
-unfolding sweep startsStep
-returns c =
-    let a = c .before .before .before .before .before .before .before .before .before .before .before .before .before .before .before .before .before .before .before .before .before .before .before .before .args in
-    let k = c .before .before .before .before .before .before .before .before .before .before .before .before .before .before .before .before .before .kept-states in
-    let s = c .before .before .before .before .before .before .before .before .before .before .before .before .start-step in
-    let b = c .before .before .before .before .before .before .before .before .before .both in
-    let v = c .before .before .before .before .before .nodes-step in
-    let still = c .before .before .before .before .before .before .before .before .if1 .still in
-    let w = now (a .words) in
-    let S : Stepped = startsStep (now (a .table)) (a .net) (now (a .targets)) (now (a .bases)) (a .down) (memory (now (a .rows)) w) in
-    let two : stepped _ w (b .result) ≡ S = after (startStep (a .net .initial) (a .net .nodes - 1)) (k .ensures w) (s .ensures w) (b .ensures) in
-    let left : still ≡ cond (S .report .changed) 0 (a .resting) =
-    ⊎-elim (λ z. where-changed (b .result .changed) still (a .resting) (z .0 .taken) (z .1)) (λ z. where-not (b .result .changed) still (a .resting) (z .0 .left) (z .1)) (c .before .before .before .before .before .before .before .before .if1 .came)
-    ∙ ap (λ (z : Stepped). cond (z .report .changed) 0 (a .resting)) two in
-    let nodes : ℕ → Stepped → Visit ℕ = λ r z. nodesFrom (now (a .table)) (a .net) (now (a .targets)) (now (a .bases)) (a .down) (a .net .nodes) r (z .memory) in (
-      after {S = S} (λ _. nodes (cond (S .report .changed) 0 (a .resting)) S .done) two (v .ensures .0 ∙ (λ i. nodes (left i) (two i) .done)) (c .both2 .ensures),
-      v .ensures .1 ∙ (λ i. nodes (left i) (two i) .left),
-    )
+same-length-5 : tie.Need-same-length-5
+same-length-5 c = c .before .before .before .before .before .before .before .nodes-visit .kept .1 .1 .1 .1 .1 .1 .1 .0 ∙ c .before .before .before .before .before .before .before .before .before .before .before .before .before .before .before .before .before .start-visit .kept .1 .1 .1 .1 .1 .1 .0 ∙ c .before .before .before .before .before .before .before .before .before .before .before .before .before .before .before .before .before .before .before .before .before .before .before .before .kept-visit .kept .1 .1 .1 .1 .1 .1 .0
+
+returns-2 : tie.Need-returns-2
+returns-2 c =
+    let s = c .before .before .before .before .before .before .before .before .before .before .before .before .before .before .before .before .before .before .before .before .before .before .before .before .before .before .before .before .before .before .before .before .before .before in
+    let v = c .before .before .before .before .before .before .before .nodes-visit in
+    let T = tableOf (now (s .args .table)) in
+    subst (Looked T (Swept T) (RestStart T) (now (s .args .looks)) (v .last .1 .1 .1 .1 .1 .1 .1 .0) (memory (now (s .args .rows)) (now (s .args .words))) (memory (v .last .1 .1 .1 .1 .1 .0) (v .last .1 .1 .1 .1 .1 .1 .0))) (sym (c .both2 .ensures))
+    (looked-so (λ f k. ⊎-elim (λ l. inr (omega (arith, l, nodes-are (s .pre .0)))) (λ e. inl e)) (λ z. z .0) (looked-then (starts-looked (c .before .before .before .before .before .before .before .before .before .before .before .before)) (v .ensures)))
 
 pub sweep-once-spec : {M : Type 1} → statement M
 sweep-once-spec =
     tie.close
     (tie.spec
-    kept-states-requires
-    sub-start-step
-    start-step-requires
+    kept-visit-requires
+    start-visit-requires
     both-requires
-    nodes-step-requires
-    both-requires-2
     same-length
     same-length-2
-    returns)
+    returns
+    nodes-visit-requires
+    both-requires-2
+    same-length-3
+    same-length-4
+    same-length-5
+    returns-2)

@@ -1,12 +1,13 @@
 -- `level_back` meets its contract: nothing where N knows nothing new, else back to the steps, then to the level below.
-use mathlib.Core.Path.{sym, ap, _∙_}
+use mathlib.Core.Path.{refl, sym, ap, _∙_}
+use native.Mathlib.Omega.{arith}
 use denote.Ref.{now}
 use Rattle.rows.specs.declared.row.Row.{Row}
 use Rattle.rows.specs.Row.{turned}
 use Rattle.rows.specs.Back.{backRows, backRow, backReport}
 use Rattle.propagate.specs.Memory.{memory}
 use Rattle.propagate.specs.Level.{addLevel}
-use Rattle.propagate.proofs.Chain.{after}
+use Rattle.propagate.proofs.Chain.{after, fits-on}
 use borrow.Author.Needs.{needs}
 use Rattle.propagate.proofs.level.level_back.Statement.{statement}
 use Rattle.propagate.proofs.level.level_back.Tie as tie
@@ -30,7 +31,10 @@ turn-requires-3 : tie.Need-turn-requires-3
 turn-requires-3 c κs = search needs
 
 add-level-requires : tie.Need-add-level-requires
-add-level-requires c κs = search needs
+add-level-requires c κs =
+    let p = c .before .before .before .before .before .before .before .before .before .before .before .before .before .before .pre in
+    let k = c .before .before .before .before .before .go-back in
+    (fits-on _ _ (k .last .1 .0) _ (p .0) (k .kept .1 .0) refl, omega (arith, p .1 .0))
 
 both-requires : tie.Need-both-requires
 both-requires c κs = search needs

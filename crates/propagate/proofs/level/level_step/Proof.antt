@@ -44,10 +44,10 @@ returns c =
     let k = c .before .before .before .before .before .level-back in
     let M = memory (now (a .rows)) (now (a .words)) in
     let T = now (a .targets) in
-    let joins : j .result ≡ joinedAt T (a .n) (a .x) (a .m) (levelAt (a .n) (a .x) (a .m) M) M =
-    j .ensures ∙ ap (λ (r : Row). joinedAt T (a .n) (a .x) (a .m) r M) (l .ensures) in
-    after {S = addJoined T (a .n) (a .x) (a .m) (joinedAt T (a .n) (a .x) (a .m) (levelAt (a .n) (a .x) (a .m) M) M) M}
-    (goBackMore T (a .n) (a .x .every) (joinedAt T (a .n) (a .x) (a .m) (levelAt (a .n) (a .x) (a .m) M) M .more) (levelAt (a .n) (a .x) (a .m) M) (addLevel (a .n) (a .x) (a .m)))
+    let joins : j .result ≡ joinedAt T (a .n) (a .x) (a .m) (a .look) (levelAt (a .n) (a .x) (a .m) M) M =
+    j .ensures ∙ ap (λ (r : Row). joinedAt T (a .n) (a .x) (a .m) (a .look) r M) (l .ensures) in
+    after {S = addJoined T (a .n) (a .x) (a .m) (joinedAt T (a .n) (a .x) (a .m) (a .look) (levelAt (a .n) (a .x) (a .m) M) M) M}
+    (goBackMore T (a .n) (a .x .every) (joinedAt T (a .n) (a .x) (a .m) (a .look) (levelAt (a .n) (a .x) (a .m) M) M .more) (levelAt (a .n) (a .x) (a .m) M) (addLevel (a .n) (a .x) (a .m)))
     (d .ensures ∙ ap (λ (r : Joined). addJoined T (a .n) (a .x) (a .m) r M) joins)
     (k .ensures ∙ (λ i. goBackMore T (a .n) (a .x .every) (joins i .more) (l .ensures i) (addLevel (a .n) (a .x) (a .m)) (memory (d .last .0) (d .last .1 .0))))
     (c .both .ensures)

@@ -16,15 +16,15 @@ use Rattle.propagate.proofs.levels.levels_step.Statement.{statement}
 use Rattle.propagate.proofs.levels.levels_step.Tie as tie
 
 abbrev Inv-loop : tie.InvT-loop
-Inv-loop targets rows₀ words₀ n x down report₀ seen₀ k₀ rows words report seen k =
+Inv-loop targets rows₀ words₀ n x down look report₀ seen₀ k₀ rows words report seen k =
     (k ≤ n)
     × (length rows ≡ length rows₀)
     × (length words ≡ length words₀)
-    × (stepped rows words report ≡ levelsFrom targets n x down k (memory rows₀ words₀) .done)
-    × (seen ≡ levelsFrom targets n x down k (memory rows₀ words₀) .left)
+    × (stepped rows words report ≡ levelsFrom targets n x down look k (memory rows₀ words₀) .done)
+    × (seen ≡ levelsFrom targets n x down look k (memory rows₀ words₀) .left)
 
 abbrev μ-loop : tie.MeasureT-loop
-μ-loop targets rows₀ words₀ n x down report₀ seen₀ k₀ rows words report seen k = n - k
+μ-loop targets rows₀ words₀ n x down look report₀ seen₀ k₀ rows words report seen k = n - k
 
 loop-holds : tie.Need-loop-holds Inv-loop μ-loop
 unfolding eachWith
@@ -67,14 +67,14 @@ loop-again c =
     let f : ℕ → Seen → Memory → Visit Seen = λ k. levelVisit (now (a .targets)) (a .n) (a .x) (ordered (a .down) (a .n) k) in
     let here : levelVisit (now (a .targets)) (a .n) (a .x) m (l .seen) (memory (l .rows) (l .words)) ≡ f (l .k) (l .seen) (memory (l .rows) (l .words)) =
     ap (λ (j : ℕ). levelVisit (now (a .targets)) (a .n) (a .x) j (l .seen) (memory (l .rows) (l .words))) o in
-    let next = after-visit f (l .k) nothingSeen M (l .inv .3, l .inv .4)
+    let next = after-visit f (l .k) (nothingSeen (a .look)) M (l .inv .3, l .inv .4)
     (s .ensures .0 ∙ ap (λ (v : Visit Seen). v .done) here, s .ensures .1 ∙ ap (λ (v : Visit Seen). v .left) here) (c .before .both .ensures) in
     let one = add-one (l .k) in (
       omega (arith, c .before .before .before .before .before .before .before .before .before .before .loop-test .taken),
       s .kept .1 .0 ∙ l .inv .1,
       s .kept .1 .1 .0 ∙ l .inv .2,
-      next .0 ∙ sym (ap (λ (k : ℕ). eachWith f k nothingSeen M .done) one),
-      next .1 ∙ sym (ap (λ (k : ℕ). eachWith f k nothingSeen M .left) one),
+      next .0 ∙ sym (ap (λ (k : ℕ). eachWith f k (nothingSeen (a .look)) M .done) one),
+      next .1 ∙ sym (ap (λ (k : ℕ). eachWith f k (nothingSeen (a .look)) M .left) one),
     )
 
 same-length : tie.Need-same-length Inv-loop μ-loop
@@ -86,7 +86,7 @@ same-length-2 c = omega arith
 returns : tie.Need-returns Inv-loop μ-loop
 returns c =
     let a = c .before .before .before .before .before .args in
-    c .before .loop .inv .3 ∙ ap (λ (k : ℕ). levelsFrom (now (a .targets)) (a .n) (a .x) (a .down) k (memory (now (a .rows)) (now (a .words))) .done) (omega arith)
+    c .before .loop .inv .3 ∙ ap (λ (k : ℕ). levelsFrom (now (a .targets)) (a .n) (a .x) (a .down) (a .look) k (memory (now (a .rows)) (now (a .words))) .done) (omega arith)
 
 pub levels-step-spec : {M : Type 1} → statement M
 levels-step-spec =

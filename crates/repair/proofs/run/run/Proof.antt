@@ -1,11 +1,11 @@
 -- `run` meets its contract: what it works out is what the search asks for, and the search's words lie within the first V.
 use Prim.Native.Nat.{ℕ, _≤_}
 use mathlib.Core.Path.{_≡_, sym, ap, _∙_}
-use mathlib.Core.List.{List}
+use mathlib.Core.List.{List, _++_}
 use native.Mathlib.Omega.{arith}
 use borrow.Author.Needs.{needs}
-use lib.ListN.{length, getD, drop, length-append, length-drop}
-use lib.Seq.{length-take-le}
+use lib.ListN.{length, getD, take, drop, length-append, length-drop}
+use lib.Seq.{length-take-le, drop-at}
 use denote.Ref.{now}
 use Rattle.table.specs.declared.refusal.Verdict.the-variants.{Accepted}
 use Rattle.table.specs.Table.{tableOf}
@@ -16,27 +16,27 @@ use Rattle.table.proofs.TargetSets.{targets-length, targets-at}
 use Rattle.circuit.specs.Variables.{variableFormula}
 use Rattle.closure.specs.declared.net.Net.{Net}
 use Rattle.closure.specs.declared.bases.Bases.{Bases}
-use Rattle.closure.specs.Knowledge.{levelTotal}
 use Rattle.closure.specs.Setting.{Setting, netOf}
 use Rattle.closure.specs.Bases.{AreBases}
+use Rattle.closure.specs.Readers.{AreReaders}
 use Rattle.closure.proofs.LevelsFit.{levels-fit}
 use Rattle.search.specs.TableSearch.{searchUnder}
 use Rattle.repair.specs.Outcome.{carried}
-use Rattle.repair.proofs.Cleared.{same-beyond}
 use Rattle.repair.proofs.ListAfter.{after-found, after-none, after-spent}
 use Rattle.repair.proofs.run.run.Statement.{statement}
 use Rattle.repair.proofs.run.run.Tie as tie
 
 -- what is worked out is what the search asks for
 setting-of : (table : List ℕ) → tableVerdict table ≡ Accepted → {net : Net} → net ≡ netOf (tableOf table) → {targets : List ℕ} → targets ≡ targetSets (tableOf table .steps)
-    → {b : Bases} → AreBases (tableOf table) b → Setting table net targets (b .at)
-setting-of table ok counts targets bases = record {
+    → {b : Bases} → AreBases (tableOf table) b → {readers : List ℕ} → AreReaders (tableOf table) readers → Setting table net targets (b .at) readers
+setting-of table ok counts targets bases reads = record {
   accepted = ok;
   counts = counts;
   targets-size = ap length targets ∙ targets-length (tableOf table .steps);
   targets-at = λ s h. ap (λ (l : List ℕ). getD l s 0) targets ∙ targets-at (tableOf table .steps) s h;
   bases-size = bases .size;
   bases-at = bases .at;
+  reads = reads;
 }
 
 net-of-requires : tie.Need-net-of-requires
@@ -44,6 +44,16 @@ net-of-requires c κs = search needs
 
 target-sets-requires : tie.Need-target-sets-requires
 target-sets-requires c κs = search needs
+
+slice-aggregate-readers-of : tie.Need-slice-aggregate-readers-of
+slice-aggregate-readers-of c = search needs
+
+readers-of-requires : tie.Need-readers-of-requires
+readers-of-requires c κs =
+    let s = c .before .before .before .before .before .before in
+    let sets = c .before .target-sets .ensures in
+    let T = tableOf (now (s .args .table)) in
+    (s .pre .0, (ap length sets ∙ targets-length (T .steps), λ k h. ap (λ (l : List ℕ). getD l k 0) sets ∙ targets-at (T .steps) k h))
 
 level-bases-requires : tie.Need-level-bases-requires
 level-bases-requires c κs = search needs
@@ -54,25 +64,53 @@ slice-aggregate-search-table c = search needs
 slice-aggregate-search-table-2 : tie.Need-slice-aggregate-search-table-2
 slice-aggregate-search-table-2 c = search needs
 
+slice-aggregate-search-table-3 : tie.Need-slice-aggregate-search-table-3
+slice-aggregate-search-table-3 c = search needs
+
+-- the first V words
+cells-fit : (s : tie.Start) → s .args .cells ≤ length (now (s .args .words))
+cells-fit s = omega (arith, s .pre .1 .1 .0, s .pre .1 .1 .1)
+
+part-length : (s : tie.Start) → length (take (s .args .cells) (now (s .args .words))) ≡ s .args .cells
+part-length s = length-take-le (s .args .cells) (now (s .args .words)) (cells-fit s)
+
+slice-relend-prefix-search-table : tie.Need-slice-relend-prefix-search-table
+slice-relend-prefix-search-table c = cells-fit (c .before .before .before .before .before .before .before .before .before .before .before .before .before)
+
+slice-aggregate-search-table-4 : tie.Need-slice-aggregate-search-table-4
+slice-aggregate-search-table-4 c = sym (part-length (c .before .before .before .before .before .before .before .before .before .before .before .before .before .before))
+
 search-table-requires : tie.Need-search-table-requires
 search-table-requires c κs =
-    let start = c .before .before .before .before .before .before .before .before .before .before .before in
+    let start = c .before .before .before .before .before .before .before .before .before .before .before .before .before .before in
     let T = tableOf (now (start .args .table)) in
-    let targets = c .before .before .before .before .before .before .target-sets .ensures in
-    let bases = c .before .before .before .before .before .level-bases .ensures in
+    let targets = c .before .before .before .before .before .before .before .before .before .target-sets .ensures in
+    let bases = c .before .before .before .before .before .before .level-bases .ensures in
     let fit = levels-fit T (accepted (now (start .args .table)) (start .pre .0) .table) in
-    let setting = setting-of (now (start .args .table)) (start .pre .0) (c .before .before .before .before .before .before .before .net-of .ensures) targets bases in
-    (setting, (bases .total, (omega (arith, fit, start .pre .1 .1), start .pre .1 .0)))
+    let setting = setting-of (now (start .args .table)) (start .pre .0) (c .before .before .before .before .before .before .before .before .before .before .net-of .ensures) targets bases (c .before .before .before .before .before .before .before .readers-of .ensures) in
+    (setting, (bases .total, (omega (arith, fit, part-length start, start .pre .1 .1 .1), start .pre .1 .0)))
 
--- what the search leaves of the words past the first V
+-- the words after it: as many, and past the first V as they were
+front-length : (c : tie.After-search-table) → length (c .search-table .last .1 .1 .1 .1 .1 .1 .1 .1 .0) ≡ c .before .before .before .before .before .before .before .before .before .before .before .before .before .before .before .args .cells
+front-length c = c .search-table .kept .1 .1 .1 .1 .1 .1 .1 .1 .0 ∙ part-length (c .before .before .before .before .before .before .before .before .before .before .before .before .before .before .before)
+
+whole-length : (c : tie.After-search-table)
+    → let start = c .before .before .before .before .before .before .before .before .before .before .before .before .before .before .before in
+    length (c .search-table .last .1 .1 .1 .1 .1 .1 .1 .1 .0 ++ drop (start .args .cells) (now (start .args .words))) ≡ length (now (start .args .words))
+whole-length c =
+    let start = c .before .before .before .before .before .before .before .before .before .before .before .before .before .before .before in
+    let words = now (start .args .words) in
+    omega (arith, front-length c, cells-fit start, length-append (c .search-table .last .1 .1 .1 .1 .1 .1 .1 .1 .0) (drop (start .args .cells) words), length-drop (start .args .cells) words)
+
 beyond : (c : tie.After-search-table)
-    → drop (variableFormula (tableOf (now (c .before .before .before .before .before .before .before .before .before .before .before .before .args .table)))) (c .search-table .last .1 .1 .1 .1 .1 .1 .1 .0)
-    ≡ drop (variableFormula (tableOf (now (c .before .before .before .before .before .before .before .before .before .before .before .before .args .table)))) (now (c .before .before .before .before .before .before .before .before .before .before .before .before .args .words))
+    → let start = c .before .before .before .before .before .before .before .before .before .before .before .before .before .before .before in
+    drop (variableFormula (tableOf (now (start .args .table)))) (c .search-table .last .1 .1 .1 .1 .1 .1 .1 .1 .0 ++ drop (start .args .cells) (now (start .args .words)))
+    ≡ drop (variableFormula (tableOf (now (start .args .table)))) (now (start .args .words))
 beyond c =
-    let start = c .before .before .before .before .before .before .before .before .before .before .before .before in
-    let T = tableOf (now (start .args .table)) in
-    let fit = levels-fit T (accepted (now (start .args .table)) (start .pre .0) .table) in
-    same-beyond (levelTotal T) (variableFormula T) _ _ fit (c .search-table .ensures .1 .1 .0) (c .search-table .ensures .1 .1 .1)
+    let start = c .before .before .before .before .before .before .before .before .before .before .before .before .before .before .before in
+    let words = now (start .args .words) in
+    let v = start .pre .1 .1 .1 in
+    drop-at (c .search-table .last .1 .1 .1 .1 .1 .1 .1 .1 .0) (drop (start .args .cells) words) _ (front-length c ∙ v) ∙ ap (λ (k : ℕ). drop k words) v
 
 enum-known-price : tie.Need-enum-known-price
 enum-known-price c = search needs
@@ -89,20 +127,20 @@ counts-of-requires c κs = search needs
 -- e, and that the list has e bytes still
 steps-count : (c : tie.After-counts-of)
     → let gave = c .before .before .before .before .before .before .before .before in
-    let start = gave .before .before .before .before .before .before .before .before .before .before .before .before in
+    let start = gave .before .before .before .before .before .before .before .before .before .before .before .before .before .before .before in
     c .counts-of .result .steps ≡ length (tableOf (now (start .args .table)) .steps)
 steps-count c =
     let gave = c .before .before .before .before .before .before .before .before in
-    let start = gave .before .before .before .before .before .before .before .before .before .before .before .before in
+    let start = gave .before .before .before .before .before .before .before .before .before .before .before .before .before .before .before in
     steps-are (now (start .args .table)) (c .counts-of .result) (c .counts-of .ensures)
 
 front-fits : (c : tie.After-counts-of)
     → let gave = c .before .before .before .before .before .before .before .before in
-    c .counts-of .result .steps ≤ length (gave .search-table .last .1 .1 .1 .1 .1 .1 .0)
+    c .counts-of .result .steps ≤ length (gave .search-table .last .1 .1 .1 .1 .1 .1 .1 .0)
 front-fits c =
     let gave = c .before .before .before .before .before .before .before .before in
-    let start = gave .before .before .before .before .before .before .before .before .before .before .before .before in
-    omega (arith, steps-count c, gave .search-table .kept .1 .1 .1 .1 .1 .1 .0, start .pre .1 .0)
+    let start = gave .before .before .before .before .before .before .before .before .before .before .before .before .before .before .before in
+    omega (arith, steps-count c, gave .search-table .kept .1 .1 .1 .1 .1 .1 .1 .0, start .pre .1 .0)
 
 slice-relend-prefix-strike-unreached : tie.Need-slice-relend-prefix-strike-unreached
 slice-relend-prefix-strike-unreached c = front-fits c
@@ -113,27 +151,27 @@ slice-aggregate-strike-unreached c = sym (length-take-le _ _ (front-fits (c .bef
 strike-unreached-requires : tie.Need-strike-unreached-requires
 strike-unreached-requires c κs =
     let gave = c .before .before .before .before .before .before .before .before .before in
-    let start = gave .before .before .before .before .before .before .before .before .before .before .before .before in
-    (start .pre .0, (gave .before .before .before .before .before .before .before .before .net-of .ensures, length-take-le _ _ (front-fits (c .before)) ∙ steps-count (c .before)))
+    let start = gave .before .before .before .before .before .before .before .before .before .before .before .before .before .before .before in
+    (start .pre .0, (gave .before .before .before .before .before .before .before .before .before .before .before .net-of .ensures, length-take-le _ _ (front-fits (c .before)) ∙ steps-count (c .before)))
 
 same-length : tie.Need-same-length
 same-length c =
     let counts = c .before .before .before .before in
     let gave = counts .before .before .before .before .before .before .before .before in
     let e = counts .counts-of .result .steps in
-    let after = gave .search-table .last .1 .1 .1 .1 .1 .1 .0 in
+    let after = gave .search-table .last .1 .1 .1 .1 .1 .1 .1 .0 in
     let struck = c .before .before .strike-unreached in
     let front : length (struck .last .1 .1 .0) ≡ e = struck .kept .1 .1 .0 ∙ length-take-le e after (front-fits counts) in
-    omega (arith, front, front-fits counts, length-append (struck .last .1 .1 .0) (drop e after), length-drop e after, gave .search-table .kept .1 .1 .1 .1 .1 .1 .0)
+    omega (arith, front, front-fits counts, length-append (struck .last .1 .1 .0) (drop e after), length-drop e after, gave .search-table .kept .1 .1 .1 .1 .1 .1 .1 .0)
 
 same-length-2 : tie.Need-same-length-2
-same-length-2 c = search needs
+same-length-2 c = whole-length (c .before .before .before .before .before .before .before .before .before .before .before .before)
 
 returns : tie.Need-returns
 returns c =
     let counts = c .before .before .before .before in
     let gave = counts .before .before .before .before .before .before .before .before in
-    let start = gave .before .before .before .before .before .before .before .before .before .before .before .before in
+    let start = gave .before .before .before .before .before .before .before .before .before .before .before .before .before .before .before in
     let T = tableOf (now (start .args .table)) in
     let list = now (start .args .list) in
     let told = sym (counts .before .before .price .given .1) ∙ gave .search-table .ensures .0 in
@@ -144,12 +182,12 @@ same-length-3 : tie.Need-same-length-3
 same-length-3 c = search needs
 
 same-length-4 : tie.Need-same-length-4
-same-length-4 c = search needs
+same-length-4 c = whole-length (c .before .before .before .before .before .before .before)
 
 returns-2 : tie.Need-returns-2
 returns-2 c =
     let gave = c .before .before .before .before .before .before .before in
-    let start = gave .before .before .before .before .before .before .before .before .before .before .before .before in
+    let start = gave .before .before .before .before .before .before .before .before .before .before .before .before .before .before .before in
     let T = tableOf (now (start .args .table)) in
     let list = now (start .args .list) in
     let told = sym (c .before .c .given .1) ∙ gave .search-table .ensures .0 in
@@ -159,12 +197,12 @@ same-length-5 : tie.Need-same-length-5
 same-length-5 c = search needs
 
 same-length-6 : tie.Need-same-length-6
-same-length-6 c = search needs
+same-length-6 c = whole-length (c .before .before .before .before .before .before .before)
 
 returns-3 : tie.Need-returns-3
 returns-3 c =
     let gave = c .before .before .before .before .before .before .before in
-    let start = gave .before .before .before .before .before .before .before .before .before .before .before .before in
+    let start = gave .before .before .before .before .before .before .before .before .before .before .before .before .before .before .before in
     let T = tableOf (now (start .args .table)) in
     let list = now (start .args .list) in
     let told = sym (c .before .c2 .given .1) ∙ gave .search-table .ensures .0 in
@@ -176,9 +214,14 @@ run-spec =
     (tie.spec
     net-of-requires
     target-sets-requires
+    slice-aggregate-readers-of
+    readers-of-requires
     level-bases-requires
     slice-aggregate-search-table
     slice-aggregate-search-table-2
+    slice-aggregate-search-table-3
+    slice-relend-prefix-search-table
+    slice-aggregate-search-table-4
     search-table-requires
     enum-known-price
     counts-of-requires

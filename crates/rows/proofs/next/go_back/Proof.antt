@@ -13,7 +13,7 @@ use Rattle.rows.specs.declared.row.Row.{Row}
 use Rattle.rows.specs.declared.row.Report.{Report}
 use Rattle.rows.specs.declared.next.Pushed.{Pushed}
 use Rattle.rows.specs.Row.{known, union}
-use Rattle.rows.specs.Words.{rowAt, joined, reportOf, bothReports}
+use Rattle.rows.specs.Words.{rowAt, joined, stepReport, bothReports}
 use Rattle.rows.specs.Back.{pushed, pushedAt, backRows, backRow, backReport}
 use Rattle.rows.proofs.next.go_back.Statement.{statement}
 use Rattle.rows.proofs.next.go_back.Tie as tie
@@ -34,9 +34,9 @@ module _ (targets : List ℕ) (ahead end : Row) (rows₀ rows : List ℕ) (s : �
   turn-row r e = (λ i. union (e i) (pushed-here i .end)) ∙ ap (backRow targets ahead end rows₀) (sym (add-one s))
 
   turn-report : (r : Report) → r ≡ backReport targets ahead end rows₀ s
-      → bothReports r (reportOf rows (2 * s) (p .steps)) ≡ backReport targets ahead end rows₀ (s + 1)
+      → bothReports r (stepReport rows s (p .steps)) ≡ backReport targets ahead end rows₀ (s + 1)
   unfolding backReport
-  turn-report r e = (λ i. bothReports (e i) (reportOf (reached i) (2 * s) (pushed-here i .steps))) ∙ ap (backReport targets ahead end rows₀) (sym (add-one s))
+  turn-report r e = (λ i. bothReports (e i) (stepReport (reached i) s (pushed-here i .steps))) ∙ ap (backReport targets ahead end rows₀) (sym (add-one s))
 
 abbrev Inv-loop : tie.InvT-loop
 Inv-loop targets rows₀ n ahead end yes₀ no₀ report₀ s₀ rows yes' no' report s =
@@ -74,11 +74,8 @@ contains-requires-2 c κs = search needs
 push-requires : tie.Need-push-requires Inv-loop μ-loop
 push-requires c κs = search needs
 
-mul-add : tie.Need-mul-add Inv-loop μ-loop
-mul-add c = omega arith
-
-add-requires : tie.Need-add-requires Inv-loop μ-loop
-add-requires c κs = omega arith
+add-step-requires : tie.Need-add-step-requires Inv-loop μ-loop
+add-step-requires c κs = (omega arith, omega arith)
 
 both-requires : tie.Need-both-requires Inv-loop μ-loop
 both-requires c κs = search needs
@@ -97,7 +94,7 @@ loop-again c =
     let p = c .before .before .before .before .before .before .before .push in
     let t = c .before .before .before .before .before .before .before .before .before .contains in
     let f = c .before .before .before .before .before .before .before .before .contains2 in
-    let d = c .before .before .before .add in (
+    let d = c .before .before .before .add-step in (
       omega (arith, c .before .before .before .before .before .before .before .before .before .before .before .before .before .loop-test .taken),
       omega (arith, d .kept .0),
       d .ensures .1
@@ -139,8 +136,7 @@ go-back-spec =
     contains-requires
     contains-requires-2
     push-requires
-    mul-add
-    add-requires
+    add-step-requires
     both-requires
     add-s
     loop-less

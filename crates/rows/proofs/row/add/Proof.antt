@@ -46,7 +46,7 @@ returns c =
     (λ w. w .1 ∙ rw (ne-eqb _ _ (w .0 .taken)))
     (λ w. w .1 ∙ rw (eq-eqb _ _ (w .0 .left)))
     (c .if1 .came) in
-    (λ i. record { changed = (told ∙ ap (grown (a .x)) old) i; fails = clashes (union (old i) (a .x)) }, rw old)
+    (λ i. record { changed = (told ∙ ap (grown (a .x)) old) i; fails = clashes (union (old i) (a .x)); steps = 0 }, rw old)
 
 pub add-spec : {M : Type 1} → statement M
 add-spec =

@@ -5,13 +5,15 @@ use Rattle.search.proofs.reach.reach.Statement.{statement}
 use Rattle.search.proofs.reach.reach.Tie as tie
 
 close-requires : tie.Need-close-requires
-close-requires c κs = search needs
+close-requires c κs =
+    let s = c .before .before .before .before .before .before .before .before .before in
+    (s .pre .0, (s .pre .1 .0, (s .pre .1 .1 .0, s .pre .1 .1 .1 .0)))
 
 assess-requires : tie.Need-assess-requires
 assess-requires c κs =
     let close = c .before .before .before .before .before .before in
-    let s = close .before .before .before .before .before .before .before .before .before in
-    ((s .pre .0 .accepted, close .close .ensures .sized .rows-size), s .pre .1 .1)
+    let s = close .before .before .before .before .before .before .before .before .before .before in
+    ((s .pre .0 .accepted, close .close .ensures .0 .sized .rows-size), s .pre .1 .1 .1 .1)
 
 same-length : tie.Need-same-length
 same-length c = search needs
@@ -27,8 +29,8 @@ returns c =
     let assess = c .before .before in
     let close = assess .before .before .before .before .before .before .before in
     record {
-      sized = close .close .ensures .sized;
-      comes = λ P b fine between stores. assess .assess .ensures _ P b fine (close .close .ensures .closes (stepLiterals P) between) stores;
+      sized = close .close .ensures .0 .sized;
+      comes = λ P b fine between stores. assess .assess .ensures _ P b fine (close .close .ensures .0 .closes (stepLiterals P) between) (close .close .ensures .1) stores;
     }
 
 pub reach-spec : {M : Type 1} → statement M

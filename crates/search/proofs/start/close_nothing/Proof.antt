@@ -1,6 +1,7 @@
 -- `close_nothing` meets its contract: rows and words of 0 lie between nothing and its closure.
-use Prim.Native.Nat.{ℕ}
+use Prim.Native.Nat.{ℕ, _≤_}
 use mathlib.Core.Path.{_≡_}
+use mathlib.Core.Bool.{true≢false}
 use mathlib.Core.List.{List, []}
 use borrow.Author.Needs.{needs}
 use lib.ListN.{length, replicate}
@@ -15,7 +16,7 @@ use Rattle.search.proofs.start.close_nothing.Tie as tie
 
 -- rows and words of 0
 module _ (T : Table) (rows words : List ℕ) (k : ℕ) (no-step : rows ≡ replicate 130 0) (no-level : words ≡ replicate k 0) where
-  nothing-sized : k ≡ levelTotal T → Sized T (memory rows words)
+  nothing-sized : levelTotal T ≤ k → Sized T (memory rows words)
   nothing-sized size = rw (no-step, no-level) (none-sized T k size)
 
   nothing-between : Between T [] (memory rows words)
@@ -27,8 +28,15 @@ zero-requires c κs = search needs
 close-requires : tie.Need-close-requires
 close-requires c κs =
     let zero = c .before .before .before .before in
-    let s = zero .before .before .before .before .before .before .before in
-    (s .pre .0, nothing-sized (tableOf (now (s .args .table))) _ _ (length (now (s .args .words))) (s .pre .1 .0) (zero .zero .ensures) (s .pre .1 .1))
+    let s = zero .before .before .before .before .before .before .before .before in
+    let T = tableOf (now (s .args .table)) in
+    let k = length (now (s .args .words)) in (
+      s .pre .0,
+      (
+        nothing-sized T _ _ k (s .pre .1 .0) (zero .zero .ensures) (s .pre .1 .1),
+        (([], nothing-between T _ _ k (s .pre .1 .0) (zero .zero .ensures) .below), λ e. absurd (true≢false e)),
+      ),
+    )
 
 same-length : tie.Need-same-length
 same-length c = search needs
@@ -40,8 +48,9 @@ returns : tie.Need-returns
 returns c =
     let close = c .before .before .before .before in
     let zero = close .before .before .before .before .before in
-    let s = zero .before .before .before .before .before .before .before in
-    (close .close .ensures .sized, close .close .ensures .closes [] (nothing-between (tableOf (now (s .args .table))) _ _ (length (now (s .args .words))) (s .pre .1 .0) (zero .zero .ensures)))
+    let s = zero .before .before .before .before .before .before .before .before in
+    let between = nothing-between (tableOf (now (s .args .table))) _ _ (length (now (s .args .words))) (s .pre .1 .0) (zero .zero .ensures) in
+    (close .close .ensures .0 .sized, (close .close .ensures .0 .closes [] between, close .close .ensures .1))
 
 pub close-nothing-spec : {M : Type 1} → statement M
 close-nothing-spec = tie.close (tie.spec zero-requires close-requires same-length same-length-2 returns)

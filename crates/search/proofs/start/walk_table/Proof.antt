@@ -1,6 +1,5 @@
 -- `walk_table` meets its contract.
 use Prim.Native.Nat.{zero-le}
-use mathlib.Core.Path.{refl}
 use mathlib.Core.List.{[]}
 use borrow.Author.Needs.{needs}
 use denote.Ref.{now}
@@ -19,15 +18,15 @@ slice-aggregate-assess : tie.Need-slice-aggregate-assess
 slice-aggregate-assess c = search needs
 
 assess-requires : tie.Need-assess-requires
-assess-requires c κs = let s = c .before .before .before .before .before .before .before in ((s .pre .0 .setting .accepted, s .pre .0 .rows-size), s .pre .0 .room)
+assess-requires c κs = let s = c .before .before .before .before .before .before .before .before in ((s .pre .0 .setting .accepted, s .pre .0 .rows-size), s .pre .0 .room)
 
 -- what the closure of nothing comes to
 comes : (c : tie.After-assess)
-    → let s = c .before .before .before .before .before .before .before .before in
-    Comes (tableOf (now (s .args .table))) Unfound (memory (s .args .t5) (now (s .args .words))) (c .assess .last .1 .1 .1 .1 .0) [] unfound (c .assess .result)
+    → let s = c .before .before .before .before .before .before .before .before .before in
+    Comes (tableOf (now (s .args .table))) Unfound (memory (s .args .t7) (now (s .args .words))) (c .assess .last .1 .1 .1 .1 .0) [] unfound (c .assess .result)
 comes c =
-    let s = c .before .before .before .before .before .before .before .before in
-    c .assess .ensures (now (s .args .words)) [] unfound (closure-is-right (tableOf (now (s .args .table))) (handed-table (s .pre .0)) .fine-none) (s .pre .1) tt
+    let s = c .before .before .before .before .before .before .before .before .before in
+    c .assess .ensures (now (s .args .words)) [] unfound (closure-is-right (tableOf (now (s .args .table))) (handed-table (s .pre .0)) .fine-none) (s .pre .1 .0) (s .pre .1 .1) tt
 
 enum-known-best : tie.Need-enum-known-best
 enum-known-best c = search needs
@@ -35,12 +34,12 @@ enum-known-best c = search needs
 enum-known-j : tie.Need-enum-known-j
 enum-known-j c = search needs
 
-kept-requires : tie.Need-kept-requires
-kept-requires c κs =
+both-ways-requires : tie.Need-both-ways-requires
+both-ways-requires c κs =
     let opened = c .before .before .before in
     let assess = opened .before .before .before .before in
-    let s = assess .before .before .before .before .before .before .before .before in (
-      handed-again (s .pre .0) refl (assess .assess .kept .1 .1 .1 .1 .0),
+    let s = assess .before .before .before .before .before .before .before .before .before in (
+      handed-again (s .pre .0) (s .pre .0 .words-size) (assess .assess .kept .1 .1 .1 .1 .0),
       (zero-le, start-stands (tableOf (now (s .args .table))) (s .args .cap) _ _ _ (comes assess) (opened .j .given .0 .0) (opened .j .given .1)),
     )
 
@@ -51,7 +50,7 @@ returns : tie.Need-returns
 returns c =
     let ended = c .before in
     let assess = ended .before .before .before .before in
-    let s = assess .before .before .before .before .before .before .before .before in
+    let s = assess .before .before .before .before .before .before .before .before .before in
     start-ended (tableOf (now (s .args .table))) (s .args .cap) _ _ _ (comes assess) (ended .best .given .0 .0) (ended .best .given .1)
 
 same-length-2 : tie.Need-same-length-2
@@ -62,11 +61,11 @@ same-length-3 c = search needs
 
 returns-2 : tie.Need-returns-2
 returns-2 c =
-    let kept = c .before .before .before .before in
-    let opened = kept .before .before .before .before in
+    let both = c .before .before .before .before in
+    let opened = both .before .before .before .before in
     let assess = opened .before .before .before .before in
-    let s = assess .before .before .before .before .before .before .before .before in
-    start-onward (tableOf (now (s .args .table))) (s .args .cap) _ _ _ (comes assess) (opened .j .given .0 .0) (opened .j .given .1) _ _ (kept .kept .ensures)
+    let s = assess .before .before .before .before .before .before .before .before .before in
+    start-onward (tableOf (now (s .args .table))) (s .args .cap) _ _ _ (comes assess) (opened .j .given .0 .0) (opened .j .given .1) _ _ (both .both-ways .ensures)
 
 pub walk-table-spec : {M : Type 1} → statement M
 walk-table-spec =
@@ -76,7 +75,7 @@ walk-table-spec =
     assess-requires
     enum-known-best
     enum-known-j
-    kept-requires
+    both-ways-requires
     same-length
     returns
     same-length-2
