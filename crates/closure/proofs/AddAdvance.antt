@@ -14,11 +14,11 @@ use Rattle.circuit.specs.Variables.{Var}
 use Rattle.rows.specs.declared.row.Row.{Row}
 use Rattle.rows.specs.Row.{Within, Clear, clashes, union}
 use Rattle.rows.specs.Words.{rowAt, SmallRow}
+use Rattle.rows.proofs.RowLaws.{union-true, clear-row}
 use Rattle.closure.specs.Knowledge.{knowledge, Sized, levelBase, levelTotal, levelRow}
 use Rattle.propagate.specs.Memory.{Memory, nodePlace, memory, Stepped, addRow, addWord}
 use Rattle.closure.specs.Inside.{Inside, Clash}
 use Rattle.closure.specs.Advance.{ForcedBy}
-use Rattle.closure.proofs.RowLaws.{union-true, clear-row}
 use Rattle.closure.proofs.JoinedRows.{joined-length, joined-past, joined-grows, joined-small, joined-same, joined-within}
 use Rattle.closure.proofs.JoinedSum.{joined-sum}
 use Rattle.closure.proofs.Advances.{Advances}

@@ -14,10 +14,10 @@ use Rattle.circuit.specs.Clauses.{Clause, clauses}
 use Rattle.rows.specs.declared.row.Row.{Row}
 use Rattle.rows.specs.Row.{union}
 use Rattle.rows.specs.Words.{rowAt, joined, stepPlace}
+use Rattle.rows.proofs.RowLaws.{union-true}
 use Rattle.closure.specs.Knowledge.{knowledge, Sized}
 use Rattle.propagate.specs.Memory.{Memory, nodePlace, keptPlace, addRow}
 use Rattle.closure.specs.Inside.{RowIn, StepsIn, Inside}
-use Rattle.closure.proofs.RowLaws.{union-true}
 use Rattle.closure.proofs.Forced.{Closed}
 use Rattle.closure.proofs.JoinedRows.{Apart, joined-here, joined-apart}
 use Rattle.closure.proofs.InsideParts.{inner-of, inside-of}

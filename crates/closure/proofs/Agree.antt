@@ -20,11 +20,11 @@ use Rattle.rows.specs.declared.joined.Joined.{Joined}
 use Rattle.rows.specs.Row.{known, turned, union, WithinAt, ClearAt}
 use Rattle.rows.specs.Words.{SmallRow}
 use Rattle.rows.specs.Rules.{unmet, aheadRow, andOutput, andInput, newOf, eitherRow, aheadWith, joinRelease, joinAlways, falls, joinFalling, innerFalling, turnedJoined, joinOf, innerOf}
+use Rattle.rows.proofs.RowLaws.{turned-small}
+use Rattle.readers.specs.Reads.{AgreeAt, AgreeOn}
 use Rattle.closure.specs.Dual.{isEvery}
 use Rattle.closure.specs.Knowledge.{Knowledge, Small}
 use Rattle.closure.specs.Rest.{aheadOf}
-use Rattle.closure.specs.Watched.{AgreeAt, AgreeOn}
-use Rattle.closure.proofs.RowLaws.{turned-small}
 use Rattle.closure.proofs.Ends.{target-small}
 
 -- ---- words, at one state

@@ -21,9 +21,9 @@ use Rattle.rows.specs.declared.row.Row.{Row}
 use Rattle.rows.specs.Row.{known, turned, only}
 use Rattle.rows.specs.Words.{SmallRow}
 use Rattle.rows.specs.Rules.{unmet, aheadRow, lastLeft, backSteps, backEnd}
+use Rattle.rows.proofs.RowLaws.{empty-none, nonempty-some, and-true, unmet-true, without-small, turned-small}
 use Rattle.closure.specs.Dual.{isEvery}
 use Rattle.closure.specs.Inside.{literal, RowIn, StepsIn}
-use Rattle.closure.proofs.RowLaws.{empty-none, nonempty-some, and-true, unmet-true, without-small, turned-small}
 use Rattle.closure.proofs.Ends.{target-true, target-small, out-target}
 use Rattle.closure.proofs.GateOf.{ClosedGate}
 use Rattle.closure.proofs.EdgeRules.{ClosedEdge, edge-struck, edge-end, edge-fails, kept-step, failed-end, struck-step, met-end, edge-and, ClosedAhead, ahead-up, ahead-down, ahead-fails, ahead-last, ahead-and}

@@ -27,8 +27,8 @@ use Rattle.closure.specs.Knowledge.{Knowledge, knowledge, Sized}
 use Rattle.propagate.specs.Memory.{Memory, memory, Stepped, failing, goBack, goBackMore, addStep}
 use Rattle.closure.specs.Inside.{RowIn, StepsIn, Inside}
 use Rattle.rows.specs.Back.{backRows, backRow, backReport}
+use Rattle.rows.proofs.RowLaws.{cond-true, turned-small}
 use Rattle.closure.specs.Advance.{ForcedBy}
-use Rattle.closure.proofs.RowLaws.{cond-true, turned-small}
 use Rattle.closure.proofs.Ends.{target-small}
 use Rattle.closure.proofs.TurnedRows.{turned-union, turned-within, within-left, within-right}
 use Rattle.closure.proofs.RulesSmall.{none-small, back-steps-small, back-end-small}

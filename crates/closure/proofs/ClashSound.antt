@@ -11,8 +11,8 @@ use Rattle.circuit.specs.Clauses.{Clause, clauses}
 use Rattle.rows.specs.declared.row.Row.{Row}
 use Rattle.rows.specs.Row.{known, turned, clashes}
 use Rattle.rows.specs.Words.{SmallRow}
+use Rattle.rows.proofs.RowLaws.{clash-state}
 use Rattle.closure.specs.Inside.{RowIn, StepsIn, Clash}
-use Rattle.closure.proofs.RowLaws.{clash-state}
 use Rattle.closure.proofs.Forced.{Closed}
 use Rattle.closure.proofs.SetsIn.{step-known}
 

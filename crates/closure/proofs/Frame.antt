@@ -20,11 +20,12 @@ use Rattle.rows.specs.declared.row.Row.{Row}
 use Rattle.rows.specs.Row.{known, turned, Within, ClearAt}
 use Rattle.rows.specs.Words.{SmallRow}
 use Rattle.rows.specs.Rules.{unmet, backSteps, backEnd, keptRow, keptSteps}
+use Rattle.rows.proofs.RowLaws.{turned-small}
+use Rattle.readers.specs.Reads.{AgreeAt, AgreeOn}
 use Rattle.closure.specs.Dual.{isEvery}
 use Rattle.closure.specs.Knowledge.{Knowledge, Small}
 use Rattle.closure.specs.Rest.{aheadOf, joinLevel, innerLevel, RestBack, RestKept, RestBoth, RestSame, RestLevel, RestNode}
-use Rattle.closure.specs.Watched.{AgreeAt, AgreeOn, SameKept, SameNode, More, Watched, Noted}
-use Rattle.closure.proofs.RowLaws.{turned-small}
+use Rattle.closure.specs.Watched.{SameKept, SameNode, More, Watched, Noted}
 use Rattle.closure.proofs.Ends.{target-small}
 use Rattle.closure.proofs.TurnedRows.{within-duals}
 use Rattle.closure.proofs.RulesSmall.{ahead-small}

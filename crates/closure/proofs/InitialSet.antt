@@ -11,8 +11,8 @@ use Rattle.sets.proofs.SetOf.{in-set}
 use Rattle.table.specs.Table.{Table}
 use Rattle.table.specs.Facts.{Wellformed}
 use Rattle.ctl.specs.Kept.{Initial}
+use Rattle.rows.proofs.RowLaws.{set-small}
 use Rattle.closure.specs.Rest.{initialSet}
-use Rattle.closure.proofs.RowLaws.{set-small}
 
 pub initial-true : (T : Table) (s : ℕ) → (member (initialSet T) s ≡ true) ↔ Initial T s
 initial-true T s = (

@@ -10,7 +10,7 @@ use Rattle.rows.specs.declared.row.Row.{Row}
 use Rattle.rows.specs.Row.{ClearAt, clashes}
 use Rattle.rows.specs.Words.{SmallRow}
 use Rattle.rows.specs.Rules.{row, eitherRow, joinRelease, joinAlways, joinOf, innerOf}
-use Rattle.closure.proofs.RowLaws.{turned-small, clear-row}
+use Rattle.rows.proofs.RowLaws.{turned-small, clear-row}
 use Rattle.closure.proofs.TurnedRows.{clear-turned}
 use Rattle.closure.proofs.RulesSmall.{either-small, release-small, always-small}
 

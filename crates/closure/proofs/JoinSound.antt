@@ -20,13 +20,13 @@ use Rattle.rows.specs.declared.joined.Joined.{Joined}
 use Rattle.rows.specs.Row.{turned, clashes}
 use Rattle.rows.specs.Words.{SmallRow}
 use Rattle.rows.specs.Rules.{eitherRow, joinRelease, joinAlways, turnedJoined, joinOf}
+use Rattle.rows.proofs.RowLaws.{turned-small}
 use Rattle.closure.specs.Inside.{RowIn, Clash}
 use Rattle.closure.proofs.Forced.{Closed}
 use Rattle.closure.proofs.GateOf.{join-gate}
 use Rattle.closure.proofs.PairRules.{ClosedPair, pair-up, pair-left, pair-right, left-false, right-false, left-last, right-last, or-left, or-right, or-left-last, or-right-last}
 use Rattle.closure.proofs.SetsIn.{SetIn, At, set-none, set-or, set-and, set-each, turned-in, in-turned, in-turned-not}
 use Rattle.closure.proofs.ClashSound.{clash-in-turned}
-use Rattle.closure.proofs.RowLaws.{turned-small}
 use Rattle.closure.proofs.RulesSmall.{either-small, release-small, always-small}
 
 -- what a level joins lies in the set; it fails only where G or N is in the set both ways

@@ -15,8 +15,8 @@ use Rattle.table.proofs.Bools.{or-parts, or-neither}
 use Rattle.rows.specs.declared.row.Row.{Row}
 use Rattle.rows.specs.Row.{Within, union}
 use Rattle.rows.specs.Words.{rowAt, joined, reportOf, SmallRow}
+use Rattle.rows.proofs.RowLaws.{or-true, cond-small}
 use Rattle.closure.specs.Advance.{Grows}
-use Rattle.closure.proofs.RowLaws.{or-true, cond-small}
 
 -- two places are at least a row apart
 abbrev pub Apart : ℕ → ℕ → Type 0

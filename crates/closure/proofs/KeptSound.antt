@@ -22,8 +22,8 @@ use Rattle.rows.specs.declared.row.Row.{Row}
 use Rattle.rows.specs.Row.{only}
 use Rattle.rows.specs.Words.{SmallRow}
 use Rattle.rows.specs.Rules.{unstruck, keptRow, keptSteps}
+use Rattle.rows.proofs.RowLaws.{without-true, empty-none, nonempty-some, and-true, without-small}
 use Rattle.closure.specs.Inside.{RowIn, StepsIn}
-use Rattle.closure.proofs.RowLaws.{without-true, empty-none, nonempty-some, and-true, without-small}
 use Rattle.closure.proofs.Ends.{target-true, target-small, out-target}
 use Rattle.closure.proofs.Forced.{Closed}
 use Rattle.closure.proofs.GateOf.{kept-gate}

@@ -1,6 +1,3 @@
-pub mod RowLaws
-pub mod MarkLaws
-pub mod NodeReads
 pub mod Ends
 pub mod Forced
 pub mod Marks

@@ -20,11 +20,11 @@ use Rattle.rows.specs.declared.row.Report.{Report}
 use Rattle.rows.specs.Row.{known, Within, ClearAt}
 use Rattle.rows.specs.Words.{rowAt, bothReports, quiet, stepPlace}
 use Rattle.propagate.specs.Memory.{Memory, nodePlace, keptPlace, nodeRow}
+use Rattle.readers.specs.Readers.{Raised}
 use Rattle.closure.specs.Knowledge.{Knowledge, knowledge, Sized, levelBase, secondChild}
 use Rattle.closure.specs.Rest.{RestKept, RestNode}
 use Rattle.closure.specs.Advance.{Founded, Grows, Advance}
 use Rattle.closure.specs.Watched.{More, Watched, Noted}
-use Rattle.closure.specs.Readers.{Raised}
 use Rattle.closure.specs.Looked.{Always, Looked}
 use Rattle.closure.proofs.Ends.{target-true}
 use Rattle.closure.proofs.RestBackFull.{OfTable}

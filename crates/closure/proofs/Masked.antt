@@ -23,13 +23,13 @@ use Rattle.rows.specs.declared.row.Row.{Row}
 use Rattle.rows.specs.Row.{turned, WithinAt, Within}
 use Rattle.rows.specs.Words.{rowAt, SmallRow, stepPlace}
 use Rattle.rows.specs.Rules.{unmet, masked, aheadRow, aheadAt, backSteps, backEnd}
+use Rattle.rows.proofs.RowLaws.{and-true, turned-small}
 use Rattle.closure.specs.Dual.{isEvery}
 use Rattle.closure.specs.Knowledge.{Knowledge}
 use Rattle.propagate.specs.Memory.{Memory, aheadIn}
+use Rattle.readers.specs.Reads.{AgreeAt}
 use Rattle.closure.specs.Inside.{RowIn}
 use Rattle.closure.specs.Rest.{RestBack}
-use Rattle.closure.specs.Watched.{AgreeAt}
-use Rattle.closure.proofs.RowLaws.{and-true, turned-small}
 use Rattle.closure.proofs.TurnedRows.{within-duals}
 use Rattle.closure.proofs.RulesSmall.{ahead-small}
 use Rattle.closure.proofs.AheadSound.{aheadOver}

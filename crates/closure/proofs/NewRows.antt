@@ -11,8 +11,8 @@ use Rattle.rows.specs.declared.row.Row.{Row}
 use Rattle.rows.specs.Row.{known, turned, Within}
 use Rattle.rows.specs.Rules.{newOf, isNone}
 use Rattle.rows.specs.Words.{SmallRow}
+use Rattle.rows.proofs.RowLaws.{or-true, empty-none, without-true}
 use Rattle.closure.specs.Inside.{RowIn}
-use Rattle.closure.proofs.RowLaws.{or-true, empty-none, without-true}
 
 pub new-within : (r q : Row) → SmallRow q → Within (newOf r q) r
 new-within r q h s true m = without-true (r .yes) (q .yes) s (h .0) .0 m .1

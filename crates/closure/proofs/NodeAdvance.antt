@@ -20,6 +20,7 @@ use Rattle.ctl.specs.Rule.{Quantifier, every, some, Operator, constant, atom, n
 use Rattle.ctl.proofs.BottomUp.{Below, children-below}
 use Rattle.rows.specs.Row.{ClearAt}
 use Rattle.rows.specs.Rules.{constantRow}
+use Rattle.rows.proofs.RowLaws.{set-small}
 use Rattle.closure.specs.Dual.{isEvery}
 use Rattle.closure.specs.Knowledge.{Knowledge, knowledge, Sized, levelBase, secondChild, levelRow}
 use Rattle.propagate.specs.Memory.{Memory, nodePlace, addRow}
@@ -27,7 +28,6 @@ use Rattle.closure.specs.Rest.{labelledSet, constantSet, RestSame, RestB
 use Rattle.closure.specs.Advance.{ForcedBy}
 use Rattle.closure.specs.Sweep.{nodeStep}
 use Rattle.propagate.specs.Gates.{sameStep, bothStep}
-use Rattle.closure.proofs.RowLaws.{set-small}
 use Rattle.closure.proofs.RulesSmall.{constant-small}
 use Rattle.closure.proofs.GateOf.{bothOf}
 use Rattle.closure.proofs.NodeSound.{constant-in, atom-in, negation-up-in, negation-down-in, same-up-in, same-down-in}

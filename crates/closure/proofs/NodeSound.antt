@@ -20,10 +20,10 @@ use Rattle.circuit.proofs.Lists.{each-none}
 use Rattle.rows.specs.declared.row.Row.{Row}
 use Rattle.rows.specs.Row.{turned}
 use Rattle.rows.specs.Rules.{andOutput, andInput, constantRow}
+use Rattle.rows.proofs.RowLaws.{without-true, set-small}
 use Rattle.closure.specs.Dual.{isEvery}
 use Rattle.closure.specs.Rest.{constantSet, labelledSet}
 use Rattle.closure.specs.Inside.{literal, RowIn}
-use Rattle.closure.proofs.RowLaws.{without-true, set-small}
 use Rattle.closure.proofs.Forced.{Closed}
 use Rattle.closure.proofs.GateRules.{and-up}
 use Rattle.closure.proofs.GateOf.{ClosedGate, bothOf, constant-gate, atom-gate, negation-gate, both-gate, first-gate}

@@ -20,19 +20,19 @@ use Rattle.ctl.specs.Rule.{Operator, operatorOf}
 use Rattle.rows.specs.declared.row.Report.{Report}
 use Rattle.rows.specs.Words.{rowAt, quiet}
 use Rattle.propagate.specs.Memory.{Memory, Stepped, memory, stepped, nodePlace, nodeRow}
+use Rattle.readers.specs.Reads.{isChild}
+use Rattle.readers.specs.Readers.{Raised, NodeMarked, StepsMarked, grown}
+use Rattle.readers.proofs.MarkLaws.{raised-then, marked-more}
+use Rattle.readers.proofs.NodeReads.{child-is}
 use Rattle.closure.specs.declared.net.Net.{Net}
 use Rattle.closure.specs.Knowledge.{Sized, levelBase, levelSize}
 use Rattle.closure.specs.Setting.{Setting}
 use Rattle.closure.specs.Sweep.{nodeStep}
 use Rattle.closure.specs.Advance.{Advance}
-use Rattle.closure.specs.Watched.{isChild}
-use Rattle.closure.specs.Readers.{Raised, NodeMarked, StepsMarked, grown}
 use Rattle.closure.specs.Looked.{Stays, Always, Looked}
 use Rattle.closure.proofs.Advances.{Advances, advance-so, advance-failing}
 use Rattle.closure.proofs.Looking.{looked-still, looked-so}
-use Rattle.closure.proofs.MarkLaws.{raised-then, marked-more}
 use Rattle.closure.proofs.NodeAdvance.{NodeRest, node-advance}
-use Rattle.closure.proofs.NodeReads.{child-is}
 use Rattle.closure.proofs.SettingFacts.{wellformed, states-are, nodes-are, few-nodes}
 use Rattle.closure.proofs.Stays.{node-stays}
 use Rattle.closure.proofs.VisitNode.{word-inside, word-here, node-calm, node-loud}

@@ -22,9 +22,10 @@ use Rattle.rows.specs.declared.row.Report.{Report}
 use Rattle.rows.specs.Row.{known}
 use Rattle.rows.specs.Words.{rowAt}
 use Rattle.propagate.specs.Memory.{Memory, nodePlace, keptPlace, nodeRow}
+use Rattle.readers.specs.Reads.{isChild, hasLevels, readsSteps, AgreeAt, AgreeOn}
+use Rattle.readers.specs.Readers.{AreReaders, NodeMarked, KeptMarked, StepsMarked, Differ}
 use Rattle.closure.specs.Knowledge.{Knowledge, knowledge, levelBase, levelSize, secondChild, levelRow}
-use Rattle.closure.specs.Watched.{isChild, hasLevels, readsSteps, AgreeAt, AgreeOn, SameKept, SameNode, Noted}
-use Rattle.closure.specs.Readers.{AreReaders, NodeMarked, KeptMarked, StepsMarked, Differ}
+use Rattle.closure.specs.Watched.{SameKept, SameNode, Noted}
 use Rattle.closure.specs.Looked.{Stays}
 use Rattle.closure.proofs.LevelsFit.{level-apart}
 use Rattle.closure.proofs.InsideParts.{wordPlace}

@@ -8,8 +8,8 @@ use lib.Dec.{eqb}
 use Rattle.sets.specs.Member.{member}
 use Rattle.table.proofs.Bools.{not-so}
 use Rattle.rows.specs.Row.{only}
+use Rattle.rows.proofs.RowLaws.{nonempty-some, only-true}
 use Rattle.closure.proofs.Forced.{one-of-both}
-use Rattle.closure.proofs.RowLaws.{nonempty-some, only-true}
 
 -- a number is t, or it differs
 pub same-or : {A : Type 0} (u t : ℕ) → (u ≡ t → A) → (¬ (u ≡ t) → A) → A

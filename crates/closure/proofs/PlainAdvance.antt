@@ -17,12 +17,12 @@ use Rattle.rows.specs.Words.{SmallRow}
 use Rattle.closure.specs.Knowledge.{Knowledge, Sized}
 use Rattle.propagate.specs.Memory.{Memory, nodePlace, addRow, nodeRow}
 use Rattle.rows.specs.Rules.{andOutput, andInput}
+use Rattle.rows.proofs.RowLaws.{and-true, or-true, turned-small}
 use Rattle.closure.specs.Dual.{isEvery}
 use Rattle.closure.specs.Rest.{RestSame, RestBoth}
 use Rattle.closure.specs.Inside.{RowIn}
 use Rattle.closure.specs.Advance.{ForcedBy}
 use Rattle.propagate.specs.Gates.{sameStep, bothStep}
-use Rattle.closure.proofs.RowLaws.{and-true, or-true, turned-small}
 use Rattle.closure.proofs.TurnedRows.{turned-twice, turned-within, within-trans}
 use Rattle.closure.proofs.RulesSmall.{output-small, input-small}
 use Rattle.closure.proofs.GateOf.{bothOf}

@@ -17,10 +17,10 @@ use Rattle.rows.specs.declared.row.Row.{Row}
 use Rattle.rows.specs.Row.{known, turned, WithinAt, ClearAt}
 use Rattle.closure.specs.Dual.{isEvery}
 use Rattle.rows.specs.Words.{SmallRow}
+use Rattle.rows.proofs.RowLaws.{some-nonempty, and-true, turned-small}
 use Rattle.closure.specs.Knowledge.{Knowledge, Small}
 use Rattle.closure.specs.Rest.{aheadOf, RestBack, Rest}
 use Rattle.closure.specs.Inside.{literal}
-use Rattle.closure.proofs.RowLaws.{some-nonempty, and-true, turned-small}
 use Rattle.closure.proofs.Ends.{target-true, target-small, out-target}
 use Rattle.closure.proofs.TurnedRows.{turned-twice, clear-turned, within-turned}
 use Rattle.closure.proofs.AndClosed.{AndRules, GateRules, many-rules}

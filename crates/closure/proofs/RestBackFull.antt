@@ -21,10 +21,10 @@ use Rattle.rows.specs.Row.{known, turned, only, Within, ClearAt}
 use Rattle.rows.specs.Rules.{unmet, aheadRow, lastLeft, backSteps, backEnd, newOf}
 use Rattle.closure.specs.Dual.{isEvery}
 use Rattle.rows.specs.Words.{SmallRow}
+use Rattle.rows.proofs.RowLaws.{and-true, cond-true, without-true, without-small, empty-none, nonempty-some, only-true, set-small, turned-small, unmet-true}
 use Rattle.closure.specs.Knowledge.{Knowledge, Small}
 use Rattle.closure.specs.Rest.{aheadOf, RestBack}
 use Rattle.closure.proofs.Forced.{one-of-both}
-use Rattle.closure.proofs.RowLaws.{and-true, cond-true, without-true, without-small, empty-none, nonempty-some, only-true, set-small, turned-small, unmet-true}
 use Rattle.closure.proofs.Ends.{target-true, target-small}
 use Rattle.closure.proofs.TurnedRows.{clear-turned}
 

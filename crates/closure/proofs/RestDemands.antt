@@ -19,10 +19,10 @@ use Rattle.circuit.specs.Clauses.{initials, demands}
 use Rattle.circuit.proofs.Lists.{Each, each-more, each-one, each-map}
 use Rattle.circuit.proofs.Clauses.{stepDemand, startDemand, rootDemand, in-initials, each-demand}
 use Rattle.rows.specs.Rules.{openStarts}
+use Rattle.rows.proofs.RowLaws.{without-true, without-small, and-true, or-true, cond-true}
 use Rattle.closure.specs.Knowledge.{Knowledge, Small}
 use Rattle.closure.specs.Rest.{initialSet, Rest}
 use Rattle.closure.proofs.Forced.{Closed}
-use Rattle.closure.proofs.RowLaws.{without-true, without-small, and-true, or-true, cond-true}
 use Rattle.closure.proofs.Ends.{target-true}
 use Rattle.closure.proofs.InitialSet.{initial-true, initial-small}
 use Rattle.closure.proofs.OneMember.{same-or, only-this}

@@ -9,7 +9,7 @@ use Rattle.table.specs.declared.family.Family.the-variants.{Release, Until, Eve
 use Rattle.rows.specs.declared.row.Row.{Row}
 use Rattle.rows.specs.Row.{known, turned, WithinAt, ClearAt}
 use Rattle.rows.specs.Rules.{andOutput, andInput, eitherRow, joinRelease, joinAlways, joinOf, newOf}
-use Rattle.closure.proofs.RowLaws.{and-true, or-true}
+use Rattle.rows.proofs.RowLaws.{and-true, or-true}
 use Rattle.closure.proofs.TurnedRows.{within-turned, within-left}
 use Rattle.closure.proofs.Says.{AndRow}
 

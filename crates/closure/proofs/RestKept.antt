@@ -21,9 +21,9 @@ use Rattle.circuit.specs.Gates.{keptGates}
 use Rattle.circuit.proofs.Lists.{Each, each-one, each-over, in-out}
 use Rattle.rows.specs.Row.{known, turned}
 use Rattle.rows.specs.Rules.{unstruck}
+use Rattle.rows.proofs.RowLaws.{without-true, without-small, none-empty, some-nonempty, or-true, cond-true}
 use Rattle.closure.specs.Knowledge.{Knowledge, Small}
 use Rattle.closure.specs.Rest.{Rest}
-use Rattle.closure.proofs.RowLaws.{without-true, without-small, none-empty, some-nonempty, or-true, cond-true}
 use Rattle.closure.proofs.Ends.{target-true, target-small, out-target}
 use Rattle.closure.proofs.OneMember.{same-or, only-this}
 use Rattle.closure.proofs.AndClosed.{GateRules, many-rules}

@@ -19,11 +19,11 @@ use Rattle.circuit.specs.Gates.{is, aheadGate, constantGate, atStates}
 use Rattle.circuit.proofs.Lists.{Each, each-one, each-over}
 use Rattle.rows.specs.Row.{known, turned, WithinAt}
 use Rattle.rows.specs.Rules.{constantRow}
+use Rattle.rows.proofs.RowLaws.{without-true, set-small}
 use Rattle.closure.specs.Dual.{isEvery}
 use Rattle.closure.specs.Knowledge.{Knowledge}
 use Rattle.closure.specs.Rest.{RestBoth, RestSame, Rest}
 use Rattle.closure.specs.Inside.{literal}
-use Rattle.closure.proofs.RowLaws.{without-true, set-small}
 use Rattle.closure.proofs.TurnedRows.{within-duals}
 use Rattle.closure.proofs.AndClosed.{AndRules, GateRules, none-rules, twice-rules}
 use Rattle.closure.proofs.Says.{rowOf, placeOf, Says, Is, one-row, two-rows}

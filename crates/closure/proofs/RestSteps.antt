@@ -11,8 +11,8 @@ use Rattle.rows.specs.declared.row.Row.{Row}
 use Rattle.rows.specs.Row.{known, turned, only, Within, ClearAt}
 use Rattle.rows.specs.Rules.{unmet, lastLeft, backSteps, backEnd}
 use Rattle.rows.specs.Words.{SmallRow}
+use Rattle.rows.proofs.RowLaws.{without-small, none-empty, and-true, or-true, cond-true, unmet-true}
 use Rattle.closure.proofs.Forced.{one-of-both}
-use Rattle.closure.proofs.RowLaws.{without-small, none-empty, and-true, or-true, cond-true, unmet-true}
 use Rattle.closure.proofs.OneMember.{same-or, only-this}
 use Rattle.closure.proofs.Says.{edgeRow, AndRow}
 

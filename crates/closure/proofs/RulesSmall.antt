@@ -12,7 +12,7 @@ use Rattle.rows.specs.declared.joined.Joined.{Joined}
 use Rattle.rows.specs.Row.{turned, only}
 use Rattle.rows.specs.Words.{SmallRow}
 use Rattle.rows.specs.Rules.{row, unmet, aheadRow, lastLeft, backSteps, backEnd, andOutput, andInput, eitherRow, joinRelease, joinAlways, falls, joinFalling, turnedJoined, joinOf, unstruck, keptRow, keptSteps, openStarts, startKept, startRoot, constantRow}
-use Rattle.closure.proofs.RowLaws.{without-small, cond-small, set-small, turned-small}
+use Rattle.rows.proofs.RowLaws.{without-small, cond-small, set-small, turned-small}
 
 pub none-small : SmallRow (row 0 0)
 none-small = (omega arith, omega arith)

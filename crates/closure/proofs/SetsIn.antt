@@ -15,8 +15,8 @@ use Rattle.circuit.specs.Logic.{Literal}
 use Rattle.circuit.specs.Variables.{Var, step}
 use Rattle.rows.specs.declared.row.Row.{Row}
 use Rattle.rows.specs.Row.{known, turned, only}
+use Rattle.rows.proofs.RowLaws.{and-true, or-true, cond-true, only-true}
 use Rattle.closure.specs.Inside.{literal, RowIn, StepsIn}
-use Rattle.closure.proofs.RowLaws.{and-true, or-true, cond-true, only-true}
 use Rattle.closure.proofs.Ends.{same-ends}
 
 -- each member of the set has P

@@ -18,9 +18,9 @@ use Rattle.rows.specs.declared.row.Row.{Row}
 use Rattle.rows.specs.Row.{only}
 use Rattle.rows.specs.Words.{SmallRow}
 use Rattle.rows.specs.Rules.{openStarts, startKept, startRoot}
+use Rattle.rows.proofs.RowLaws.{without-true, only-true, and-true, without-small}
 use Rattle.closure.specs.Rest.{initialSet}
 use Rattle.closure.specs.Inside.{RowIn, Clash}
-use Rattle.closure.proofs.RowLaws.{without-true, only-true, and-true, without-small}
 use Rattle.closure.proofs.InitialSet.{initial-true, initial-small}
 use Rattle.closure.proofs.Forced.{Closed}
 use Rattle.closure.proofs.SetsIn.{set-cond, row-in}

@@ -32,10 +32,10 @@ use Rattle.propagate.specs.Memory.{Memory, memory, nodePlace, keptPlace, Steppe
 use Rattle.propagate.specs.Gates.{sameStep, bothStep, nextStep}
 use Rattle.propagate.specs.Level.{fixpointAt, levelAt, addLevel, addJoined, joinedAt, levelStep, alike, nothingSeen, levelLook, levelVisit, levelsFrom}
 use Rattle.propagate.proofs.Ordered.{ordered-below}
+use Rattle.readers.specs.Reads.{isChild}
 use Rattle.closure.specs.Knowledge.{Sized, levelBase, levelTotal, levelSize}
 use Rattle.closure.specs.Dual.{isEvery}
 use Rattle.closure.specs.Sweep.{nodeStep, keptStep, startStep}
-use Rattle.closure.specs.Watched.{isChild}
 use Rattle.closure.specs.Looked.{Stays}
 use Rattle.closure.proofs.LevelsFit.{level-place}
 use Rattle.closure.proofs.JoinedRows.{joined-length, at-other, joined-apart, joined-same}

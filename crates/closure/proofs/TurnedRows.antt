@@ -5,7 +5,7 @@ use mathlib.Core.Bool.{Bool, true, false, not}
 use mathlib.Core.Logic.{inl, inr}
 use Rattle.rows.specs.declared.row.Row.{Row}
 use Rattle.rows.specs.Row.{known, turned, WithinAt, Within, ClearAt, union}
-use Rattle.closure.proofs.RowLaws.{union-true}
+use Rattle.rows.proofs.RowLaws.{union-true}
 
 pub turned-twice : (e : Bool) (r : Row) → turned e (turned e r) ≡ r
 turned-twice true r = refl

@@ -16,11 +16,11 @@ use Rattle.rows.specs.declared.row.Report.{Report}
 use Rattle.rows.specs.Words.{rowAt, bothReports}
 use Rattle.propagate.specs.Memory.{Memory, nodePlace, failing, ordered}
 use Rattle.propagate.proofs.Ordered.{ordered-below, ordered-twice}
+use Rattle.readers.specs.Readers.{AreReaders, StepsMarked}
 use Rattle.closure.specs.Knowledge.{Knowledge, knowledge, Sized, secondChild}
 use Rattle.closure.specs.Rest.{RestStart, Rest}
 use Rattle.closure.specs.Advance.{Advance}
 use Rattle.closure.specs.Watched.{Watched, RestBut}
-use Rattle.closure.specs.Readers.{AreReaders, StepsMarked}
 use Rattle.closure.specs.Looked.{Always, Swept, Looked}
 use Rattle.closure.proofs.Advances.{advance-so, advance-failing}
 use Rattle.closure.proofs.InsideParts.{level-last}

@@ -17,6 +17,8 @@ use Rattle.rows.specs.declared.row.Row.{Row}
 use Rattle.rows.specs.declared.row.Report.{Report}
 use Rattle.rows.specs.Words.{rowAt, bothReports, quiet}
 use Rattle.propagate.specs.Memory.{Memory, memory, stepped, nodePlace, keptPlace, nodeRow, Stepped}
+use Rattle.readers.specs.Readers.{AreReaders, Raised, NodeMarked, StepsMarked, KeptMarked, Differ, grown}
+use Rattle.readers.proofs.MarkLaws.{Gone, gone-first, gone-next, gone-last, node-unchanged, steps-unchanged, grown-differ}
 use Rattle.closure.specs.declared.net.Net.{Net}
 use Rattle.closure.specs.Knowledge.{Knowledge, Sized}
 use Rattle.closure.specs.Rest.{initialSet, RestKept, RestStart}
@@ -24,9 +26,7 @@ use Rattle.closure.specs.Setting.{Setting}
 use Rattle.closure.specs.Sweep.{keptStep, startStep}
 use Rattle.closure.specs.Advance.{Advance}
 use Rattle.closure.specs.Watched.{Watched}
-use Rattle.closure.specs.Readers.{AreReaders, Raised, NodeMarked, StepsMarked, KeptMarked, Differ, grown}
 use Rattle.closure.specs.Looked.{Stays, Always, KeptAlone, Looked}
-use Rattle.closure.proofs.MarkLaws.{Gone, gone-first, gone-next, gone-last, node-unchanged, steps-unchanged, grown-differ}
 use Rattle.closure.proofs.SettingFacts.{wellformed}
 use Rattle.closure.proofs.AddAdvance.{rows-small}
 use Rattle.closure.proofs.Advances.{advance-so, advance-then, advance-failing}

@@ -22,15 +22,16 @@ use Rattle.rows.specs.declared.row.Row.{Row}
 use Rattle.rows.specs.declared.row.Report.{Report}
 use Rattle.rows.specs.Row.{ClearAt}
 use Rattle.rows.specs.Words.{rowAt, quiet}
+use Rattle.rows.proofs.RowLaws.{and-true}
 use Rattle.propagate.specs.Memory.{Memory, nodePlace, nodeRow, Stepped}
+use Rattle.readers.specs.Reads.{isChild, hasLevels}
+use Rattle.readers.specs.Readers.{AreReaders, Raised, NodeMarked, StepsMarked, KeptMarked, Differ, grown}
+use Rattle.readers.proofs.MarkLaws.{node-unchanged, grown-differ}
 use Rattle.closure.specs.Knowledge.{Knowledge, knowledge, Sized, levelBase, levelSize}
 use Rattle.closure.specs.Rest.{RestNode}
 use Rattle.closure.specs.Advance.{Advance}
-use Rattle.closure.specs.Watched.{isChild, hasLevels, Watched, Noted}
-use Rattle.closure.specs.Readers.{AreReaders, Raised, NodeMarked, StepsMarked, KeptMarked, Differ, grown}
+use Rattle.closure.specs.Watched.{Watched, Noted}
 use Rattle.closure.specs.Looked.{Stays, Always, Looked}
-use Rattle.closure.proofs.RowLaws.{and-true}
-use Rattle.closure.proofs.MarkLaws.{node-unchanged, grown-differ}
 use Rattle.closure.proofs.LevelsFit.{level-apart}
 use Rattle.closure.proofs.AddAdvance.{rows-small}
 use Rattle.closure.proofs.Advances.{advance-so, quiet-parts}

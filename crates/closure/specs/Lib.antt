@@ -5,7 +5,6 @@ pub mod Knowledge
 pub mod Dual
 pub mod Rest
 pub mod Watched
-pub mod Readers
 pub mod Inside
 pub mod Advance
 pub mod Settled

@@ -7,10 +7,10 @@ use Rattle.table.specs.declared.refusal.Verdict.the-variants.{Accepted}
 use Rattle.table.specs.Table.{Table, tableOf}
 use Rattle.table.specs.Accept.{tableVerdict}
 use Rattle.table.specs.Rows.{targetSet}
+use Rattle.readers.specs.Readers.{AreReaders}
 use Rattle.closure.specs.declared.net.Net.{Net}
 use Rattle.closure.specs.Rest.{initialSet}
 use Rattle.closure.specs.Knowledge.{levelBase}
-use Rattle.closure.specs.Readers.{AreReaders}
 
 -- the counts of states and nodes, and the initial states
 abbrev pub netOf : Table → Net

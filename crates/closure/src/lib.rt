@@ -1,11 +1,9 @@
 // The closure of a set of literals, by unit propagation over rows of machine words.
 mod bases;
 mod kept;
-mod marking;
 mod net;
 mod node;
 mod nodes;
-mod readers;
 mod settled;
 mod sweep;
 mod visit;
@@ -13,6 +11,5 @@ mod visit;
 pub use bases::Bases;
 pub use bases::level_bases;
 pub use net::Net;
-pub use readers::readers_of;
 pub use sweep::Closure;
 pub use sweep::close;

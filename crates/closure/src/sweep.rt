@@ -1,10 +1,10 @@
 // The closure, by events: sweeps up and down in turn over what is to be looked at, until nothing is or something is known both ways.
-use crate::marking::mark_steps;
 use crate::net::Net;
 use crate::nodes::nodes_visit;
 use crate::settled::settled_steps;
 use crate::visit::kept_visit;
 use crate::visit::start_visit;
+use readers::mark_steps;
 use rows::Report;
 use rows::both;
 ghost use mathlib.Core.Path.{_≡_};
@@ -16,9 +16,9 @@ ghost use Rattle.table.specs.Table.{tableOf};
 ghost use Rattle.closure.specs.Knowledge.{knowledge, Sized};
 ghost use Rattle.closure.specs.Rest.{RestStart};
 ghost use Rattle.propagate.specs.Memory.{memory};
+ghost use Rattle.readers.specs.Readers.{StepsMarked};
 ghost use Rattle.closure.specs.Setting.{Setting};
 ghost use Rattle.closure.specs.Watched.{RestBut};
-ghost use Rattle.closure.specs.Readers.{StepsMarked};
 ghost use Rattle.closure.specs.Advance.{Founded};
 ghost use Rattle.closure.specs.Looked.{Swept, Looked};
 ghost use Rattle.closure.specs.Closes.{Closed};

@@ -2,15 +2,15 @@
 use crate::kept::KEPT_PLACE;
 use crate::kept::kept_step;
 use crate::kept::start_step;
-use crate::marking::KEPT_WORD;
-use crate::marking::grown_at;
-use crate::marking::mark_kept;
-use crate::marking::mark_node;
-use crate::marking::mark_steps;
-use crate::marking::put;
 use crate::net::Net;
 use crate::node::node_step;
 use propagate::node_row;
+use readers::KEPT_WORD;
+use readers::grown_at;
+use readers::mark_kept;
+use readers::mark_node;
+use readers::mark_steps;
+use readers::put;
 use rows::Report;
 use rows::Row;
 use rows::both;
@@ -26,10 +26,10 @@ ghost use Rattle.sets.specs.Member.{member};
 ghost use Rattle.table.specs.Table.{tableOf};
 ghost use Rattle.rows.specs.Words.{rowAt};
 ghost use Rattle.propagate.specs.Memory.{memory, nodePlace};
+ghost use Rattle.readers.specs.Readers.{Raised, NodeMarked, grown};
 ghost use Rattle.closure.specs.Knowledge.{Sized};
 ghost use Rattle.closure.specs.Rest.{RestStart};
 ghost use Rattle.closure.specs.Setting.{Setting};
-ghost use Rattle.closure.specs.Readers.{Raised, NodeMarked, grown};
 ghost use Rattle.closure.specs.Looked.{Looked, KeptAlone, Always};
 
 // K at each state of a set.

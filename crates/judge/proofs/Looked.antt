@@ -12,7 +12,7 @@ use Rattle.sets.specs.Member.{member, setOf, countOf, lowestOf}
 use Rattle.sets.proofs.Laws.{member-zero, member-inside}
 use Rattle.sets.proofs.SetOf.{in-set, setOf-lt, countOf-less, lowestOf-has}
 use Rattle.table.proofs.Bools.{and-parts, parts-and, or-parts, or-left, or-right, not-so}
-use Rattle.label.proofs.Lowest.{lowest-below}
+use Rattle.sets.proofs.Walk.{lowest-below}
 use Rattle.judge.specs.Reached.{Closed, Least}
 
 -- some states are reached, and of some of these the next states are still left to add

@@ -1,5 +1,5 @@
 -- The states of a set in ascending order are its lowest member, and then those of the rest.
-use Prim.Native.Nat.{ℕ, _^_, _≤_, _<_}
+use Prim.Native.Nat.{ℕ, _≤_, _<_}
 use mathlib.Core.Path.{_≡_, refl, sym, ap, _∙_}
 use mathlib.Core.Bool.{Bool, true, false, cond, not, _&&_, false≢true, and-true}
 use mathlib.Core.Logic.{⊎-elim}
@@ -8,7 +8,7 @@ use native.Mathlib.Omega.{arith}
 use borrow.Author.Tests.{eq-eqb, ne-eqb}
 use lib.Dec.{eqb}
 use Rattle.sets.specs.Member.{member, setOf, lowestOf}
-use Rattle.sets.proofs.SetOf.{member-setOf-below, some-member, lowestOf-has, lowestOf-least}
+use Rattle.sets.proofs.SetOf.{member-setOf-below, lowestOf-has, lowestOf-least}
 use Rattle.sets.proofs.Laws.{member-zero}
 use Rattle.ctl.specs.Levels.{below, select}
 use Rattle.ctl.proofs.Select.{in-below}
@@ -47,13 +47,6 @@ lowest-first set h =
     let s = lowestOf 32 (member set) in
     select-least (member set) (below 32) (tabulate-ascending 32 (λ k. k) (λ i j l. l)) s (in-below 32 s .1 h) (lowestOf-has 32 (member set) h) (lowestOf-least 32 (member set))
     ∙ ap (λ (xs : List ℕ). s ∷ xs) (sym (set-states (λ t. member set t && not (eqb t s))))
-
--- a set that is not empty has a lowest member below 32
-pub lowest-below : (set : ℕ) → set < 2 ^ 32 → ¬ (set ≡ 0) → lowestOf 32 (member set) < 32
-lowest-below set small d =
-    let m = some-member 32 set small d in
-    let l = lowestOf-least 32 (member set) (m .0) (m .2) in
-    omega (arith, m .1, l)
 
 select-none : (p : ℕ → Bool) (ks : List ℕ) → ((k : ℕ) → p k ≡ false) → select p ks ≡ []
 unfolding select

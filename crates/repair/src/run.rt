@@ -25,11 +25,11 @@ pub fn run(table: &[u8], cap: u64, list: &mut [u8], words: &mut [u32], cells: us
 {
     let net = net_of(table);
     let targets = table::target_sets(table);
-    let readers = closure::readers_of(table, &targets);
+    let readers = readers::readers_of(table, &targets);
     let b = closure::level_bases(table);
     let bases = b.at;
     let levels = b.total;
-    match search::search_table(
+    match walk::search_table(
         table,
         net,
         &targets,

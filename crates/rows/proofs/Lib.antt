@@ -1,1 +1,2 @@
 pub mod StepWords
+pub mod RowLaws

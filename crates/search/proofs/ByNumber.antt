@@ -21,7 +21,7 @@ use Rattle.closure.specs.Advance.{ForcedBy}
 use Rattle.closure.specs.Given.{Given, Within}
 use Rattle.closure.proofs.Forced.{forced-least}
 use Rattle.closure.proofs.Places.{place-step, place-injective, steps-fit}
-use Rattle.search.specs.Stands.{Fine, stepLiterals}
+use Rattle.search.specs.Fine.{Fine, stepLiterals}
 
 -- the numbered literal is in S
 abbrev pub ByNumber : Table → (Literal ℕ → Type 0) → Literal Var → Type 0

@@ -14,7 +14,7 @@ use Rattle.closure.specs.Numbered.{numberedClauses}
 use Rattle.closure.specs.Given.{Inside}
 use Rattle.closure.proofs.Computed.{held-forced, clash-fails}
 use Rattle.closure.proofs.Grow.{closure-grows, closure-keeps, consistent-more, within-more}
-use Rattle.search.specs.Stands.{Fine}
+use Rattle.search.specs.Fine.{Fine}
 use Rattle.search.proofs.Needs.{ClosureIsRight}
 use Rattle.closure.proofs.Places.{steps-fit, numbered-inside}
 use Rattle.search.proofs.ByNumber.{fine-within}

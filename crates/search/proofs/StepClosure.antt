@@ -21,7 +21,7 @@ use Rattle.closure.specs.Settled.{HowMany, Settles, CountsSettled, SettledCount
 use Rattle.closure.proofs.Computed.{closure-fails, closure-holds}
 use Rattle.closure.proofs.SettledBelow as below
 use Rattle.closure.proofs.Places.{steps-fit, numbered-inside}
-use Rattle.search.specs.Stands.{Fine, closureOf, stepLiterals}
+use Rattle.search.specs.Fine.{Fine, closureOf, stepLiterals}
 use Rattle.search.proofs.ByNumber.{fine-within, steps-same, fails-same}
 
 -- as many, where the same numbers have it

@@ -4,6 +4,5 @@ pub mod Right
 pub mod Counted
 pub mod Answer
 pub mod StepRows
+pub mod Fine
 pub mod Finds
-pub mod KeptWords
-pub mod Stands

@@ -8,8 +8,8 @@ use lib.ListN.{getD}
 use denote.Ref.{now}
 use Rattle.sets.specs.Member.{setOf}
 use Rattle.table.specs.Table.{tableOf}
+use Rattle.readers.proofs.MarkLaws.{raised-then, kept-marked-more}
 use Rattle.closure.proofs.SettingFacts.{wellformed, states-are}
-use Rattle.closure.proofs.MarkLaws.{raised-then, kept-marked-more}
 use Rattle.closure.proofs.VisitNode.{word-inside, word-here}
 use Rattle.closure.proofs.VisitKept.{kept-grown, kept-calm, kept-loud}
 use Rattle.closure.proofs.visit.kept_visit.Statement.{statement}

@@ -15,7 +15,7 @@ use Rattle.ctl.proofs.OfKind.{second-below}
 use Rattle.rows.specs.declared.row.Row.{Row}
 use Rattle.rows.specs.Words.{rowAt}
 use Rattle.propagate.specs.Memory.{memory, stepped, nodePlace}
-use Rattle.closure.specs.Readers.{NodeMarked, grown}
+use Rattle.readers.specs.Readers.{NodeMarked, grown}
 use Rattle.closure.specs.Sweep.{nodeStep}
 use Rattle.closure.proofs.NodeVisit.{visit-none, visit-sized, visit-calm, visit-loud}
 use Rattle.closure.proofs.SettingFacts.{few-states, few-nodes, node-here, levels-in}

@@ -3,7 +3,7 @@ use Prim.Native.Nat.{ℕ}
 use mathlib.Core.Path.{ap, subst, _∙_}
 use denote.Ref.{now}
 use Rattle.rows.specs.declared.row.Row.{Row}
-use Rattle.closure.specs.Readers.{NodeMarked, grown}
+use Rattle.readers.specs.Readers.{NodeMarked, grown}
 use borrow.Author.Needs.{needs}
 use Rattle.closure.proofs.visit.note_node.Statement.{statement}
 use Rattle.closure.proofs.visit.note_node.Tie as tie

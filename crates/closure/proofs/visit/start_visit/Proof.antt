@@ -7,8 +7,8 @@ use denote.Ref.{now}
 use Rattle.table.specs.Table.{tableOf}
 use Rattle.rows.specs.Words.{rowAt}
 use Rattle.propagate.specs.Memory.{nodePlace}
+use Rattle.readers.proofs.MarkLaws.{raised-then, kept-marked-more}
 use Rattle.closure.proofs.SettingFacts.{wellformed, some-node, few-nodes}
-use Rattle.closure.proofs.MarkLaws.{raised-then, kept-marked-more}
 use Rattle.closure.proofs.VisitKept.{kept-grown, node-grown, start-does, start-calm, start-loud}
 use Rattle.closure.proofs.visit.start_visit.Statement.{statement}
 use Rattle.closure.proofs.visit.start_visit.Tie as tie

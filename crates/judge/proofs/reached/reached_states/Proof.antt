@@ -2,7 +2,7 @@
 use Prim.Native.Nat.{_<_}
 use native.Mathlib.Omega.{arith}
 use borrow.Author.Needs.{needs}
-use Rattle.label.proofs.Lowest.{lowest-below}
+use Rattle.sets.proofs.Walk.{lowest-below}
 use Rattle.judge.proofs.Looked.{Looked, toLook, looked-first, looked-turn, looked-last}
 use Rattle.judge.proofs.reached.reached_states.Statement.{statement}
 use Rattle.judge.proofs.reached.reached_states.Tie as tie

@@ -16,7 +16,8 @@ use Rattle.table.specs.Buffer.{over}
 use Rattle.table.proofs.Buffer.{over-next, over-length, over-all}
 use Rattle.ctl.specs.Levels.{below}
 use Rattle.label.specs.ReadingOrder.{statesWith}
-use Rattle.label.proofs.Lowest.{lowest-first, lowest-below, no-states}
+use Rattle.sets.proofs.Walk.{lowest-below}
+use Rattle.label.proofs.Lowest.{lowest-first, no-states}
 use Rattle.label.proofs.holding.write_ascending.Statement.{statement}
 use Rattle.label.proofs.holding.write_ascending.Tie as tie
 

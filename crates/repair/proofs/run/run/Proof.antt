@@ -14,11 +14,11 @@ use Rattle.table.specs.Rows.{targetSets}
 use Rattle.table.proofs.Accepted.{accepted, steps-are}
 use Rattle.table.proofs.TargetSets.{targets-length, targets-at}
 use Rattle.circuit.specs.Variables.{variableFormula}
+use Rattle.readers.specs.Readers.{AreReaders}
 use Rattle.closure.specs.declared.net.Net.{Net}
 use Rattle.closure.specs.declared.bases.Bases.{Bases}
 use Rattle.closure.specs.Setting.{Setting, netOf}
 use Rattle.closure.specs.Bases.{AreBases}
-use Rattle.closure.specs.Readers.{AreReaders}
 use Rattle.closure.proofs.LevelsFit.{levels-fit}
 use Rattle.search.specs.TableSearch.{searchUnder}
 use Rattle.repair.specs.Outcome.{carried}

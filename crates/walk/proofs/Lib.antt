@@ -1,0 +1,16 @@
+pub mod OneMore
+pub mod Closing
+pub mod WalkOn
+pub mod Chosen
+pub mod Zeroed
+pub mod ChosenRest
+pub mod SameWords
+pub mod Lent
+pub mod StepMarks
+pub mod Fewer
+pub mod Reached
+pub mod ChoiceCount
+pub mod Giving
+pub mod TryLaws
+pub mod Handing
+pub mod FromStart

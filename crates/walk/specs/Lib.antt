@@ -1,0 +1,2 @@
+pub mod KeptWords
+pub mod Stands
