@@ -3,7 +3,7 @@ use Prim.Native.Nat.{ℕ, zero, suc, _<_}
 use native.Mathlib.Nat.{not-suc-le-zero, lt-trans}
 use native.Mathlib.Omega.{arith}
 use mathlib.Core.Path.{_≡_, refl, sym, subst, _∙_}
-use mathlib.Core.Bool.{Bool, true, false, _||_, false≢true}
+use mathlib.Core.Bool.{Bool, true, false, cond, _||_, true≢false, false≢true}
 use mathlib.Core.Logic.{⊎-elim}
 use mathlib.Core.List.{List}
 use borrow.Author.Count.{below-more}
@@ -15,7 +15,7 @@ use Rattle.circuit.specs.Variables.{Var}
 use Rattle.rows.specs.declared.row.Report.{Report}
 use Rattle.rows.specs.Words.{bothReports, quiet}
 use Rattle.closure.specs.Knowledge.{Knowledge, knowledge, Sized, total}
-use Rattle.propagate.specs.Memory.{Memory, Stepped, failing, Visit, eachWith, eachBelow, ordered}
+use Rattle.propagate.specs.Memory.{Memory, Stepped, failing, Visit, _thenVisit_, eachWith, ordered}
 use Rattle.closure.specs.Inside.{Inside, Clash}
 use Rattle.closure.specs.Advance.{ForcedBy, Advance}
 use Rattle.propagate.proofs.Ordered.{ordered-below, ordered-twice}
@@ -103,7 +103,33 @@ module _ (T : Table) where
     more = λ c. absurd (false≢true c);
   }
 
-  -- a step for each number below n, each with what the one before it left, of which R is so
+  -- where it fails nothing has to be so
+  pub advance-failed : {P Q : Knowledge → Type 0} {M N : Memory} {r : Report} → r .fails ≡ true → Advance T P M N r → Advance T Q M N r
+  advance-failed f a = record {
+    sized = a .sized;
+    grows-rows = a .grows-rows;
+    grows-words = a .grows-words;
+    same-rows-length = a .same-rows-length;
+    beyond = a .beyond;
+    same-words-length = a .same-words-length;
+    sound = a .sound;
+    clash = a .clash;
+    unchanged = a .unchanged;
+    quiet = λ c e. absurd (true≢false (sym f ∙ e));
+    more = a .more;
+  }
+
+  -- the first n, and one more unless they failed
+  next-or-not : {S : Type 0} {M : Memory} (Q : ℕ → Knowledge → Type 0) (R : S → Knowledge → Type 0) (n : ℕ) (p : Visit S) (f : S → Memory → Visit S)
+      (failed : Bool) → p .done .report .fails ≡ failed
+      → Advances T (λ K. (k : ℕ) → k < n → Q k K) M (p .done) × R (p .left) (knowledge T (p .done .memory))
+      → (let v = f (p .left) (p .done .memory) in Advances T (Q n) (p .done .memory) (v .done) × R (v .left) (knowledge T (v .done .memory)))
+      → let v = cond failed p (p thenVisit f) in Advances T (λ K. (k : ℕ) → k < suc n → Q k K) M (v .done) × R (v .left) (knowledge T (v .done .memory))
+  next-or-not Q R n p f true e before next = (advance-failed e (before .0), before .1)
+  next-or-not {M = M} Q R n p f false e before next =
+      (advance-so (λ q k l. below-more (λ k. Q k (knowledge T M)) n (q .0) (q .1) k (omega arith)) (advance-then (before .0) (next .0)), next .1)
+
+  -- a step for each number below n, each with what the one before it left, of which R is so, until one fails
   pub advance-with : {S : Type 0} (f : ℕ → S → Memory → Visit S) (Q : ℕ → Knowledge → Type 0) (R : S → Knowledge → Type 0) (n : ℕ)
       → ((k : ℕ) → k < n → (s : S) (M : Memory) → Sized T M → R s (knowledge T M)
       → Advances T (Q k) M (f k s M .done) × R (f k s M .left) (knowledge T (f k s M .done .memory)))
@@ -113,16 +139,9 @@ module _ (T : Table) where
   advance-with f Q R zero step s M sized r =
       (advance-so (λ e k l. absurd (not-suc-le-zero l)) (advance-failing false M sized (λ e. absurd (false≢true e))), r)
   advance-with f Q R (suc n) step s M sized r =
+      let p = eachWith f n s M in
       let before = advance-with f Q R n (λ k l. step k (omega arith)) s M sized r in
-      let next = step n (omega arith) (eachWith f n s M .left) (eachWith f n s M .done .memory) (before .0 .sized) (before .1) in
-      (advance-so (λ q k l. below-more (λ k. Q k (knowledge T M)) n (q .0) (q .1) k (omega arith)) (advance-then (before .0) (next .0)), next .1)
-
-  -- with nothing to leave
-  pub advance-each : (f : ℕ → Memory → Stepped) (Q : ℕ → Knowledge → Type 0) (n : ℕ)
-      → ((k : ℕ) → k < n → (M : Memory) → Sized T M → Advances T (Q k) M (f k M))
-      → (M : Memory) → Sized T M → Advances T (λ K. (k : ℕ) → k < n → Q k K) M (eachBelow f n M)
-  unfolding eachBelow
-  advance-each f Q n step M sized = advance-with {S = Unit {0}} (λ k s M. record { done = f k M; left = s }) Q (λ s K. Unit {0}) n (λ k l s M z r. (step k l M z, tt)) tt M sized tt .0
+      next-or-not Q R n p (f n) (p .done .report .fails) refl before (step n (omega arith) (p .left) (p .done .memory) (before .0 .sized) (before .1))
 
 -- upward or downward, each number has its turn
 pub advance-ordered : (T : Table) (down : Bool) {S : Type 0} (f : ℕ → S → Memory → Visit S) (Q : ℕ → Knowledge → Type 0) (R : S → Knowledge → Type 0) (n : ℕ)

@@ -28,7 +28,7 @@ use Rattle.rows.specs.Words.{rowAt, reportOf, bothReports, stepPlace}
 use Rattle.rows.specs.Back.{backRows, backRow, backReport, pushedAt}
 use Rattle.propagate.specs.declared.level.Fixpoint.{Fixpoint}
 use Rattle.propagate.specs.declared.levels.Seen.{Seen}
-use Rattle.propagate.specs.Memory.{Memory, memory, nodePlace, keptPlace, Stepped, failing, _andThen_, addRow, addStep, addWord, nodeRow, Visit, passed, eachWith, ordered, aheadIn, goBack, goBackMore}
+use Rattle.propagate.specs.Memory.{Memory, memory, nodePlace, keptPlace, Stepped, failing, _andThen_, addRow, addStep, addWord, nodeRow, Visit, passed, _thenVisit_, eachWith, ordered, aheadIn, goBack, goBackMore}
 use Rattle.propagate.specs.Gates.{sameStep, bothStep, nextStep}
 use Rattle.propagate.specs.Level.{fixpointAt, levelAt, addLevel, addJoined, joinedAt, levelStep, alike, nothingSeen, levelLook, levelVisit, levelsFrom}
 use Rattle.propagate.proofs.Ordered.{ordered-below}
@@ -198,15 +198,21 @@ module _ (N : ℕ → Type 0) (K : Type 0) (W : ℕ → Type 0) (size : ℕ) whe
         moves-then up (move-go-back targets n few e (newOf (masked look (nodeRow O i)) over) (nodeRow M a) (addRow (nodePlace a))
         (λ x O z. move-node O z a la child x) O (up .0))
 
-  -- ---- each with what the one before it left
+  -- ---- each with what the one before it left, until one fails
+
+  next-or-not : {S : Type 0} {M : Memory} (p : Visit S) (f : S → Memory → Visit S) (failed : Bool) → Moves M (p .done)
+      → Moves (p .done .memory) (f (p .left) (p .done .memory) .done) → Moves M (cond failed p (p thenVisit f) .done)
+  next-or-not p f true before then = before
+  next-or-not p f false before then = moves-then before then
 
   moves-each : {S : Type 0} (f : ℕ → S → Memory → Visit S) (k : ℕ)
       → ((j : ℕ) → j < k → (s : S) (M : Memory) → Fits size M → Moves M (f j s M .done)) → (s : S) (M : Memory) → Fits size M → Moves M (eachWith f k s M .done)
   unfolding eachWith
   moves-each f zero step s M fits = move-none M fits false
   moves-each f (suc k) step s M fits =
+      let p = eachWith f k s M in
       let before = moves-each f k (λ j l. step j (omega arith)) s M fits in
-      moves-then before (step k (omega arith) (eachWith f k s M .left) (eachWith f k s M .done .memory) (before .0))
+      next-or-not p (f k) (p .done .report .fails) before (step k (omega arith) (p .left) (p .done .memory) (before .0))
 
   -- ---- the levels of a fixed point
 

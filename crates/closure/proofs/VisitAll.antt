@@ -22,7 +22,7 @@ use Rattle.closure.specs.Rest.{RestStart, Rest}
 use Rattle.closure.specs.Advance.{Advance}
 use Rattle.closure.specs.Watched.{Watched, RestBut}
 use Rattle.closure.specs.Looked.{Always, Swept, Looked}
-use Rattle.closure.proofs.Advances.{advance-so, advance-failing}
+use Rattle.closure.proofs.Advances.{advance-so, advance-failing, advance-failed}
 use Rattle.closure.proofs.InsideParts.{level-last}
 use Rattle.closure.proofs.Noting.{out-of}
 use Rattle.closure.proofs.Looking.{looked-still, looked-so, looked-then}
@@ -69,10 +69,16 @@ pub among-all : {T : Table} (down : Bool) (f : ℕ) {looks looks′ : List ℕ} 
     → Looked T (Among down f k) Always looks looks′ M N r → Looked T (λ c. c < f) Always looks looks′ M N r
 among-all down f k e a = looked-so (λ z c l. (ordered down f c, subst (λ (n : ℕ). ordered down f c < n) (sym e) (ordered-below down f c l), sym (ordered-twice down f c l))) (λ z. tt) a
 
--- something is known both ways: nothing is said of the words
+-- something is known both ways: nothing is said of the words, nor of the rows
 pub looked-failed : {T : Table} {D E : ℕ → Type 0} {P Q : Knowledge → Type 0} {looks looks′ : List ℕ} {M N : Memory} {r : Report} → r .fails ≡ true
-    → (P (knowledge T M) → Q (knowledge T M)) → Looked T D P looks looks′ M N r → Looked T E Q looks looks′ M N r
-looked-failed f q a = looked-so (λ z c e. absurd (true≢false (sym f ∙ z))) q a
+    → Looked T D P looks looks′ M N r → Looked T E Q looks looks′ M N r
+looked-failed {T} f a = record {
+  advance = advance-failed T f (a .advance);
+  size = a .size;
+  watched = a .watched;
+  still = a .still;
+  done = λ c z. absurd (true≢false (sym f ∙ z));
+}
 
 -- ---- at the end
 

@@ -29,7 +29,7 @@ use Rattle.closure.specs.Watched.{Watched}
 use Rattle.closure.specs.Looked.{Stays, Always, KeptAlone, Looked}
 use Rattle.closure.proofs.SettingFacts.{wellformed}
 use Rattle.closure.proofs.AddAdvance.{rows-small}
-use Rattle.closure.proofs.Advances.{advance-so, advance-then, advance-failing}
+use Rattle.closure.proofs.Advances.{advance-so, advance-then, advance-failing, advance-failed}
 use Rattle.closure.proofs.InsideParts.{wordPlace}
 use Rattle.closure.proofs.KeptAdvance.{kept-advance, start-advance}
 use Rattle.closure.proofs.Stays.{stays-same, stays-then, kept-stays, start-stays}
@@ -81,6 +81,10 @@ module _ (T : Table) (look : ℕ) where
     advance = advance-so T (λ p s l m. gone-last look left _ small none p s m) (g .advance);
     stays = g .stays;
   }
+
+  -- something is known both ways
+  pub kept-failed : (left : ℕ) (M N : Memory) (r : Report) → r .fails ≡ true → KeptGone T look left M N r → KeptAlone T look M N r
+  kept-failed left M N r f g = record { advance = advance-failed T f (g .advance); stays = g .stays }
 
 module _ (T : Table) (wf : Wellformed T) (M N : Memory) (sized : Sized T M) (r : Report) where
   -- ---- K added nothing

@@ -47,6 +47,9 @@ fn sweep_once(
     ensures { λ r. ⌜ Looked (tableOf (now (table .entry))) (Swept (tableOf (now (table .entry)))) (RestStart (tableOf (now (table .entry)))) (now (looks .entry)) (now (looks .exit)) (memory (now (rows .entry)) (now (words .entry))) (memory (now (rows .exit)) (now (words .exit))) r ⌝ }
 {
     let first = kept_visit(table, net, targets, bases, readers, rows, looks);
+    if first.fails {
+        return first;
+    }
     let second = both(
         first,
         start_visit(table, net, targets, bases, readers, rows, looks),

@@ -32,7 +32,7 @@ ghost use Rattle.closure.specs.Rest.{RestStart};
 ghost use Rattle.closure.specs.Setting.{Setting};
 ghost use Rattle.closure.specs.Looked.{Looked, KeptAlone, Always};
 
-// K at each state of a set.
+// K at each state of a set, until something is known both ways.
 fn kept_states(
     table: &[u8],
     net: Net,
@@ -55,6 +55,9 @@ fn kept_states(
     while left != 0 {
         let s = sets::lowest(left);
         report = both(report, kept_step(targets, rows, s));
+        if report.fails {
+            return report;
+        }
         left = sets::remove(left, s);
     }
     report

@@ -66,17 +66,15 @@ pub record Visit (S : Type 0) : Type 0 where
 abbrev pub passed : {S : Type 0} → S → Memory → Visit S
 passed s M = record { done = failing false M; left = s }
 
--- for each number below k, each with what the one before it left
+-- one after another
+infixl 20 _thenVisit_
+abbrev pub _thenVisit_ : {S : Type 0} → Visit S → (S → Memory → Visit S) → Visit S
+p thenVisit f = let v = f (p .left) (p .done .memory) in record { done = p .done andThen (λ _. v .done); left = v .left }
+
+-- for each number below k, each with what the one before it left, until one fails
 unfoldable pub eachWith : {S : Type 0} → (ℕ → S → Memory → Visit S) → ℕ → S → Memory → Visit S
 eachWith f zero s M = passed s M
-eachWith f (suc k) s M =
-    let p = eachWith f k s M in
-    let v = f k (p .left) (p .done .memory) in
-    record { done = p .done andThen (λ _. v .done); left = v .left }
-
--- the same, with nothing to leave
-unfoldable pub eachBelow : (ℕ → Memory → Stepped) → ℕ → Memory → Stepped
-eachBelow f k M = eachWith {S = Unit {0}} (λ k s M. record { done = f k M; left = s }) k tt M .done
+eachWith f (suc k) s M = let p = eachWith f k s M in cond (p .done .report .fails) p (p thenVisit f k)
 
 -- the k-th of n numbers, going up or going down
 abbrev pub ordered : Bool → ℕ → ℕ → ℕ

@@ -84,7 +84,7 @@ fn level_visit(
     }
 }
 
-// Upward or downward.
+// Upward or downward, until something is known both ways.
 pub fn levels_step(
     targets: &[u32],
     rows: &mut [u32],
@@ -114,6 +114,9 @@ pub fn levels_step(
         let m = if down { n - 1 - k } else { k };
         let v = level_visit(targets, rows, words, n, x, m, seen);
         report = both(report, v.report);
+        if report.fails {
+            return report;
+        }
         seen = v.seen;
         k += 1;
     }
