@@ -40,9 +40,6 @@ pub mod RestKept
 pub mod RestDemands
 pub mod RestNodes
 pub mod RestForced
-pub mod NodeLevels
-pub mod SettingFacts
-pub mod Closing
 pub mod JoinedRows
 pub mod JoinedSum
 pub mod InsideLess
@@ -50,7 +47,6 @@ pub mod Advances
 pub mod AddAdvance
 pub mod InsideParts
 pub mod AddSound
-pub mod Stays
 pub mod AddPlaces
 pub mod AddLevel
 pub mod RulesSmall
@@ -66,10 +62,3 @@ pub mod NodeAdvance
 pub mod Agree
 pub mod Masked
 pub mod Alike
-pub mod Frame
-pub mod Noting
-pub mod Looking
-pub mod VisitNode
-pub mod NodeVisit
-pub mod VisitAll
-pub mod VisitKept

@@ -11,7 +11,7 @@ use Rattle.table.specs.Table.{Table, stepAt}
 use Rattle.circuit.specs.Logic.{Literal}
 use Rattle.circuit.specs.Variables.{Var, step}
 use Rattle.circuit.specs.Clauses.{clauses}
-use Rattle.closure.specs.declared.sweep.Closure.{Closure}
+use Rattle.closure.specs.declared.answer.Closure.{Closure}
 use Rattle.closure.specs.Closure.{Fails}
 use Rattle.rows.specs.Steps.{stepBit, stepSettled}
 use Rattle.closure.specs.Knowledge.{knowledge, Sized, levelTotal}

@@ -4,12 +4,9 @@ pub mod Numbered
 pub mod Knowledge
 pub mod Dual
 pub mod Rest
-pub mod Watched
 pub mod Inside
 pub mod Advance
 pub mod Settled
 pub mod Closes
 pub mod Sweep
-pub mod Setting
-pub mod Looked
 pub mod Bases

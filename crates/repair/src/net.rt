@@ -4,7 +4,7 @@ ghost use mathlib.Core.Path.{_≡_};
 ghost use Rattle.table.specs.declared.refusal.Verdict.the-variants.{Accepted};
 ghost use Rattle.table.specs.Table.{tableOf};
 ghost use Rattle.table.specs.Accept.{tableVerdict};
-ghost use Rattle.closure.specs.Setting.{netOf};
+ghost use Rattle.events.specs.Setting.{netOf};
 
 pub fn net_of(table: &[u8]) -> Net
     requires { ⌜ tableVerdict (now table) ≡ Accepted ⌝ }

@@ -8,7 +8,7 @@ ghost use Rattle.table.specs.Table.{tableOf};
 ghost use Rattle.table.specs.Accept.{tableVerdict};
 ghost use Rattle.ctl.specs.Labels.{isKept};
 ghost use Rattle.ctl.specs.Reached.{isReached};
-ghost use Rattle.closure.specs.Setting.{netOf};
+ghost use Rattle.events.specs.Setting.{netOf};
 ghost use Rattle.repair.specs.Round.{Round};
 
 // The states that a kept step leaves.

@@ -7,7 +7,7 @@ ghost use Rattle.table.specs.declared.refusal.Verdict.the-variants.{Accepted};
 ghost use Rattle.table.specs.Table.{tableOf};
 ghost use Rattle.table.specs.Accept.{tableVerdict};
 ghost use Rattle.ctl.specs.Reached.{strike};
-ghost use Rattle.closure.specs.Setting.{netOf};
+ghost use Rattle.events.specs.Setting.{netOf};
 
 // Strikes every step out of a state that the list does not reach.
 pub fn strike_unreached(table: &[u8], net: Net, list: &mut [u8])

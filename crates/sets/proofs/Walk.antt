@@ -41,22 +41,22 @@ module _ (set left s : ℕ) (l : Left set left) (some : ¬ (left ≡ 0)) (low : 
   at-others : (t : ℕ) → t < 32 → member (others left s) t ≡ member left t && not (eqb t s)
   at-others t h = member-setOf-below 32 (λ t. member left t && not (eqb t s)) t h
 
-  pub left-next : Left set (others left s)
-  left-next = record { small = setOf-lt 32 _; inside = λ t h e. l .inside t h (stays t (member left t) refl (sym (at-others t h) ∙ e)) }
+  -- what is left then was left before
+  was-left : (t : ℕ) → t < 32 → member (others left s) t ≡ true → member left t ≡ true
+  was-left t h e = stays (member left t) refl (sym (at-others t h) ∙ e)
     where
-      stays : (t : ℕ) (b : Bool) → member left t ≡ b → b && not (eqb t s) ≡ true → member left t ≡ true
-      stays t true p q = p
-      stays t false p q = p ∙ q
+      stays : (b : Bool) → member left t ≡ b → b && not (eqb t s) ≡ true → member left t ≡ true
+      stays true p q = p
+      stays false p q = p ∙ q
+
+  pub left-next : Left set (others left s)
+  left-next = record { small = setOf-lt 32 _; inside = λ t h e. l .inside t h (was-left t h e) }
 
   -- one member fewer is left
   pub left-fewer : countOf 32 (member (others left s)) < countOf 32 (member left)
-  left-fewer = countOf-less (member left) (member (others left s)) 32 (λ t h e. stays t (member left t) refl (sym (at-others t h) ∙ e)) s next-below next-left
+  left-fewer = countOf-less (member left) (member (others left s)) 32 was-left s next-below next-left
       (at-others s next-below ∙ ap (λ (b : Bool). member left s && not b) (eq-eqb s s refl) ∙ gone (member left s))
     where
-      stays : (t : ℕ) (b : Bool) → member left t ≡ b → b && not (eqb t s) ≡ true → member left t ≡ true
-      stays t true p q = p
-      stays t false p q = p ∙ q
-
       gone : (b : Bool) → b && false ≡ false
       gone true = refl
       gone false = refl

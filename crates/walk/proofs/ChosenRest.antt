@@ -21,11 +21,11 @@ use Rattle.readers.specs.Reads.{readsSteps, AgreeAt}
 use Rattle.closure.specs.Knowledge.{Knowledge, knowledge, Sized, secondChild, levelBase}
 use Rattle.closure.specs.Inside.{Inside}
 use Rattle.closure.specs.Advance.{ForcedBy}
-use Rattle.closure.specs.Watched.{SameKept, SameNode, More, RestBut}
+use Rattle.events.specs.Watched.{SameKept, SameNode, More, RestBut}
 use Rattle.closure.proofs.Ends.{target-true}
-use Rattle.closure.proofs.Closing.{small-knowledge}
+use Rattle.events.proofs.Closing.{small-knowledge}
 use Rattle.closure.proofs.RestBackFull.{OfTable}
-use Rattle.closure.proofs.Frame.{frame-kept, frame-node}
+use Rattle.events.proofs.Frame.{frame-kept, frame-node}
 use Rattle.search.specs.StepRows.{withStep, changedBy}
 use Rattle.walk.specs.Stands.{Resting}
 use Rattle.walk.proofs.OneMore.{more-new}

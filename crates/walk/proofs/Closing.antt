@@ -8,7 +8,7 @@ use lib.ListN.{length}
 use Rattle.table.specs.Table.{Table}
 use Rattle.table.specs.Facts.{Wellformed}
 use Rattle.circuit.specs.Logic.{Literal}
-use Rattle.closure.specs.declared.sweep.Closure.{Closure}
+use Rattle.closure.specs.declared.answer.Closure.{Closure}
 use Rattle.closure.specs.Closure.{Marks, markAt, known, Progress, clash, marked}
 use Rattle.propagate.specs.Memory.{Memory}
 use Rattle.closure.specs.Closes.{stepKnown, Closes}

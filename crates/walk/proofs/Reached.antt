@@ -14,7 +14,7 @@ use Rattle.table.specs.Table.{Table}
 use Rattle.table.specs.Facts.{Wellformed}
 use Rattle.ctl.proofs.Tabulate.{length-tabulate}
 use Rattle.circuit.specs.Logic.{Literal}
-use Rattle.closure.specs.declared.sweep.Closure.{Closure}
+use Rattle.closure.specs.declared.answer.Closure.{Closure}
 use Rattle.closure.specs.Closure.{Marks, markAt, isKnown, known, marked}
 use Rattle.propagate.specs.Memory.{Memory}
 use Rattle.closure.specs.Closes.{stepKnown, Closes}

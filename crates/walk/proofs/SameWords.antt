@@ -19,7 +19,7 @@ use Rattle.propagate.specs.Memory.{memory, nodePlace}
 use Rattle.closure.specs.Knowledge.{Knowledge, knowledge, levelTotal, levelBase, secondChild}
 use Rattle.closure.specs.Rest.{RestBack, RestKept, RestBoth, RestSame, RestLevel, RestNode}
 use Rattle.closure.specs.Closes.{Between}
-use Rattle.closure.specs.Watched.{RestBut}
+use Rattle.events.specs.Watched.{RestBut}
 use Rattle.closure.proofs.LevelsFit.{level-place}
 
 -- ---- rest does not depend on levels but those that the rules of the node are given

@@ -9,13 +9,13 @@ use Rattle.table.specs.Table.{Table, tableOf}
 use Rattle.ctl.specs.Levels.{below}
 use Rattle.circuit.specs.Logic.{Literal}
 use Rattle.closure.specs.declared.net.Net.{Net}
-use Rattle.closure.specs.declared.sweep.Closure.{Closure}
+use Rattle.closure.specs.declared.answer.Closure.{Closure}
 use Rattle.closure.specs.Closure.{Marks, markAt, isKnown, known, marked}
 use Rattle.closure.specs.Knowledge.{knowledge, Sized, levelTotal}
 use Rattle.propagate.specs.Memory.{Memory, memory}
 use Rattle.closure.specs.Closes.{stepKnown, Between, Closes}
-use Rattle.closure.specs.Watched.{RestBut}
-use Rattle.closure.specs.Setting.{Setting}
+use Rattle.events.specs.Watched.{RestBut}
+use Rattle.events.specs.Setting.{Setting}
 use Rattle.search.specs.declared.best.Best.{Best as Held}
 use Rattle.search.specs.declared.best.Walked.{Walked as Finished}
 use Rattle.walk.specs.declared.reach.Reached.{Reached}

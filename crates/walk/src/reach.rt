@@ -15,9 +15,9 @@ ghost use Rattle.table.specs.Table.{tableOf};
 ghost use Rattle.table.specs.Accept.{tableVerdict};
 ghost use Rattle.closure.specs.Knowledge.{knowledge, Sized};
 ghost use Rattle.propagate.specs.Memory.{memory};
-ghost use Rattle.closure.specs.Setting.{Setting};
+ghost use Rattle.events.specs.Setting.{Setting};
 ghost use Rattle.closure.specs.Advance.{Founded};
-ghost use Rattle.closure.specs.Watched.{RestBut};
+ghost use Rattle.events.specs.Watched.{RestBut};
 ghost use Rattle.walk.specs.Stands.{ComesOf, Reaches};
 
 // The cheapest find, or the lowest step left unsettled.
@@ -70,7 +70,7 @@ pub fn reach(
     requires { ⌜ length (tableOf (now table) .steps) ≤ length (now find) ⌝ }
     ensures { λ r. ⌜ Reaches (tableOf (now (table .entry))) best (memory (now (rows .entry)) (now (words .entry))) (memory (now (rows .exit)) (now (words .exit))) (now (find .entry)) (now (find .exit)) r ⌝ }
 {
-    let closed = closure::close(
+    let closed = events::close(
         table,
         net,
         targets,

@@ -19,7 +19,7 @@ ghost use Rattle.table.specs.Table.{tableOf};
 ghost use Rattle.propagate.specs.Memory.{memory};
 ghost use Rattle.closure.specs.Knowledge.{Sized, levelTotal};
 ghost use Rattle.closure.specs.Closes.{Closes};
-ghost use Rattle.closure.specs.Setting.{Setting};
+ghost use Rattle.events.specs.Setting.{Setting};
 ghost use Rattle.search.specs.Search.{unfound};
 ghost use Rattle.search.specs.TableSearch.{searchUnder};
 ghost use Rattle.search.specs.Answer.{outcomeOf, listAfter};
@@ -44,7 +44,7 @@ fn close_nothing(
     ensures { λ r. ⌜ (r .fails ≡ false → Resting (tableOf (now (table .entry))) (memory (now (rows .exit)) (now (words .exit)))) ⌝ }
 {
     zero(words);
-    closure::close(table, net, targets, bases, readers, rows, words, true, 0)
+    events::close(table, net, targets, bases, readers, rows, words, true, 0)
 }
 
 // All of the search: what is tried from the closure of nothing. The list of the cheapest find is left in `find`.

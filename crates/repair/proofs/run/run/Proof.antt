@@ -17,7 +17,7 @@ use Rattle.circuit.specs.Variables.{variableFormula}
 use Rattle.readers.specs.Readers.{AreReaders}
 use Rattle.closure.specs.declared.net.Net.{Net}
 use Rattle.closure.specs.declared.bases.Bases.{Bases}
-use Rattle.closure.specs.Setting.{Setting, netOf}
+use Rattle.events.specs.Setting.{Setting, netOf}
 use Rattle.closure.specs.Bases.{AreBases}
 use Rattle.closure.proofs.LevelsFit.{levels-fit}
 use Rattle.search.specs.TableSearch.{searchUnder}

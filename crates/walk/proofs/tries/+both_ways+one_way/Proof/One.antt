@@ -13,7 +13,7 @@ use Rattle.closure.specs.Knowledge.{knowledge, Sized}
 use Rattle.propagate.specs.Memory.{memory}
 use Rattle.closure.specs.Advance.{Founded}
 use Rattle.closure.specs.Closes.{Between}
-use Rattle.closure.specs.Watched.{RestBut}
+use Rattle.events.specs.Watched.{RestBut}
 use Rattle.search.specs.declared.choices.Choice.the-variants.{Next}
 use Rattle.search.specs.Search.{Best}
 use Rattle.search.specs.Counted.{counted}

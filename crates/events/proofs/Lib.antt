@@ -1,0 +1,10 @@
+pub mod NodeLevels
+pub mod SettingFacts
+pub mod Closing
+pub mod Stays
+pub mod Frame
+pub mod Noting
+pub mod Looking
+pub mod VisitNode
+pub mod VisitAll
+pub mod VisitKept
