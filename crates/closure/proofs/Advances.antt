@@ -29,10 +29,10 @@ abbrev pub Both : (Knowledge → Type 0) → (Knowledge → Type 0) → Knowledg
 Both P Q K = P K × Q K
 
 module _ (T : Table) where
-  -- what is so where it is quiet, told another way
-  pub advance-so : {P Q : Knowledge → Type 0} {M N : Memory} {r : Report} → (P (knowledge T M) → Q (knowledge T M))
+  -- another thing is so where it is quiet
+  advance-when : {P Q : Knowledge → Type 0} {M N : Memory} {r : Report} → (r .changed ≡ false → r .fails ≡ false → Q (knowledge T M))
       → Advance T P M N r → Advance T Q M N r
-  advance-so f a = record {
+  advance-when q a = record {
     sized = a .sized;
     grows-rows = a .grows-rows;
     grows-words = a .grows-words;
@@ -42,9 +42,18 @@ module _ (T : Table) where
     sound = a .sound;
     clash = a .clash;
     unchanged = a .unchanged;
-    quiet = λ c e. f (a .quiet c e);
+    quiet = q;
     more = a .more;
   }
+
+  -- what is so where it is quiet, told another way
+  pub advance-so : {P Q : Knowledge → Type 0} {M N : Memory} {r : Report} → (P (knowledge T M) → Q (knowledge T M))
+      → Advance T P M N r → Advance T Q M N r
+  advance-so f a = advance-when (λ c e. f (a .quiet c e)) a
+
+  -- where it fails nothing has to be so
+  pub advance-failed : {P Q : Knowledge → Type 0} {M N : Memory} {r : Report} → r .fails ≡ true → Advance T P M N r → Advance T Q M N r
+  advance-failed f a = advance-when (λ c e. absurd (true≢false (sym f ∙ e))) a
 
   -- of a report it speaks only as to whether something was added and whether it fails, not whose steps they were
   pub advance-told : {Q : Knowledge → Type 0} {M N : Memory} (r s : Report) → s .changed ≡ r .changed → s .fails ≡ r .fails → Advance T Q M N r → Advance T Q M N s
@@ -101,22 +110,6 @@ module _ (T : Table) where
     unchanged = λ c. refl;
     quiet = λ c e. e;
     more = λ c. absurd (false≢true c);
-  }
-
-  -- where it fails nothing has to be so
-  pub advance-failed : {P Q : Knowledge → Type 0} {M N : Memory} {r : Report} → r .fails ≡ true → Advance T P M N r → Advance T Q M N r
-  advance-failed f a = record {
-    sized = a .sized;
-    grows-rows = a .grows-rows;
-    grows-words = a .grows-words;
-    same-rows-length = a .same-rows-length;
-    beyond = a .beyond;
-    same-words-length = a .same-words-length;
-    sound = a .sound;
-    clash = a .clash;
-    unchanged = a .unchanged;
-    quiet = λ c e. absurd (true≢false (sym f ∙ e));
-    more = a .more;
   }
 
   -- the first n, and one more unless they failed

@@ -17,7 +17,7 @@ use Rattle.rows.specs.Rules.{keptRow, keptSteps, openStarts, startKept, startRo
 use Rattle.rows.proofs.RowLaws.{set-small}
 use Rattle.closure.specs.Rest.{initialSet, RestKept, RestStart}
 use Rattle.closure.specs.Advance.{ForcedBy}
-use Rattle.closure.specs.Sweep.{keptStep, startStep}
+use Rattle.closure.specs.MemoryRules.{keptStep, startStep}
 use Rattle.closure.proofs.Ends.{target-small}
 use Rattle.closure.proofs.RulesSmall.{kept-small, kept-steps-small, start-kept-small, start-root-small}
 use Rattle.closure.proofs.KeptSound.{kept-row-in, kept-steps-in}

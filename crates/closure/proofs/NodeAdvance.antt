@@ -26,7 +26,7 @@ use Rattle.closure.specs.Knowledge.{Knowledge, knowledge, Sized, levelBa
 use Rattle.propagate.specs.Memory.{Memory, nodePlace, addRow}
 use Rattle.closure.specs.Rest.{labelledSet, constantSet, RestSame, RestBoth, RestNode}
 use Rattle.closure.specs.Advance.{ForcedBy}
-use Rattle.closure.specs.Sweep.{nodeStep}
+use Rattle.closure.specs.MemoryRules.{nodeStep}
 use Rattle.propagate.specs.Gates.{sameStep, bothStep}
 use Rattle.closure.proofs.RulesSmall.{constant-small}
 use Rattle.closure.proofs.GateOf.{bothOf}

@@ -8,5 +8,5 @@ pub mod Inside
 pub mod Advance
 pub mod Settled
 pub mod Closes
-pub mod Sweep
+pub mod MemoryRules
 pub mod Bases

@@ -14,7 +14,7 @@ ghost use mathlib.Core.Path.{_≡_};
 ghost use mathlib.Core.List.{List};
 ghost use Prim.Native.Nat.{ℕ, _<_};
 ghost use lib.ListN.{length};
-ghost use Rattle.closure.specs.Sweep.{keptStep, startStep};
+ghost use Rattle.closure.specs.MemoryRules.{keptStep, startStep};
 ghost use Rattle.propagate.specs.Memory.{memory, stepped};
 
 // Where the row of K lies.

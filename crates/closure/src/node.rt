@@ -14,7 +14,7 @@ ghost use mathlib.Core.List.{List};
 ghost use Prim.Native.Nat.{ℕ, _+_, _*_, _-_, _≤_, _<_};
 ghost use lib.ListN.{length, getD};
 ghost use Rattle.ctl.specs.Rule.{operatorOf};
-ghost use Rattle.closure.specs.Sweep.{nodeStep};
+ghost use Rattle.closure.specs.MemoryRules.{nodeStep};
 ghost use Rattle.propagate.specs.Memory.{memory, stepped};
 
 pub fn node_step(

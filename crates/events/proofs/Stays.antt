@@ -35,7 +35,7 @@ use Rattle.propagate.proofs.Ordered.{ordered-below}
 use Rattle.readers.specs.Reads.{isChild}
 use Rattle.closure.specs.Knowledge.{Sized, levelBase, levelTotal, levelSize}
 use Rattle.closure.specs.Dual.{isEvery}
-use Rattle.closure.specs.Sweep.{nodeStep, keptStep, startStep}
+use Rattle.closure.specs.MemoryRules.{nodeStep, keptStep, startStep}
 use Rattle.events.specs.Looked.{Stays}
 use Rattle.closure.proofs.LevelsFit.{level-place}
 use Rattle.closure.proofs.JoinedRows.{joined-length, at-other, joined-apart, joined-same}

@@ -23,7 +23,7 @@ use Rattle.closure.specs.declared.net.Net.{Net}
 use Rattle.closure.specs.Knowledge.{Knowledge, Sized}
 use Rattle.closure.specs.Rest.{initialSet, RestKept, RestStart}
 use Rattle.events.specs.Setting.{Setting}
-use Rattle.closure.specs.Sweep.{keptStep, startStep}
+use Rattle.closure.specs.MemoryRules.{keptStep, startStep}
 use Rattle.closure.specs.Advance.{Advance}
 use Rattle.events.specs.Watched.{Watched}
 use Rattle.events.specs.Looked.{Stays, Always, KeptAlone, Looked}

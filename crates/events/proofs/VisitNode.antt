@@ -34,7 +34,7 @@ use Rattle.readers.proofs.NodeReads.{child-is}
 use Rattle.closure.specs.declared.net.Net.{Net}
 use Rattle.closure.specs.Knowledge.{Knowledge, Sized, levelBase, levelSize}
 use Rattle.events.specs.Setting.{Setting}
-use Rattle.closure.specs.Sweep.{nodeStep}
+use Rattle.closure.specs.MemoryRules.{nodeStep}
 use Rattle.closure.specs.Rest.{RestNode}
 use Rattle.closure.specs.Advance.{Advance}
 use Rattle.events.specs.Watched.{Watched}

@@ -9,7 +9,7 @@ use Rattle.rows.specs.declared.row.Report.{Report}
 use Rattle.rows.specs.Rules.{keptRow, keptSteps}
 use Rattle.rows.specs.Words.{rowAt, joined, stepReport, stepPlace}
 use Rattle.propagate.specs.Memory.{keptPlace, memory, stepped, addStep}
-use Rattle.closure.specs.Sweep.{keptStep}
+use Rattle.closure.specs.MemoryRules.{keptStep}
 use Rattle.propagate.proofs.Chain.{added, after}
 use borrow.Author.Needs.{needs}
 use Rattle.closure.proofs.kept.kept_step.Statement.{statement}

@@ -10,7 +10,7 @@ use Rattle.rows.specs.Row.{only}
 use Rattle.rows.specs.Rules.{openStarts, startKept, startRoot}
 use Rattle.rows.specs.Words.{rowAt}
 use Rattle.propagate.specs.Memory.{nodePlace, keptPlace, failing, memory}
-use Rattle.closure.specs.Sweep.{startStep}
+use Rattle.closure.specs.MemoryRules.{startStep}
 use Rattle.propagate.proofs.Chain.{after-add}
 use borrow.Author.Needs.{needs}
 use Rattle.closure.proofs.kept.start_step.Statement.{statement}

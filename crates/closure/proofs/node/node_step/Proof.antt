@@ -19,7 +19,7 @@ use Rattle.ctl.proofs.OfKind.{of-kind, past-kinds, from-six, second-b, second-b
 use Rattle.rows.specs.Rules.{constantRow}
 use Rattle.propagate.specs.Memory.{nodePlace, Stepped, memory}
 use Rattle.closure.specs.Dual.{isEvery}
-use Rattle.closure.specs.Sweep.{nodeStep}
+use Rattle.closure.specs.MemoryRules.{nodeStep}
 use Rattle.propagate.specs.Level.{fixpointAt, levelsFrom}
 use Rattle.propagate.specs.Gates.{sameStep, bothStep, nextStep}
 use Rattle.propagate.proofs.Chain.{added}

@@ -16,7 +16,7 @@ use Rattle.rows.specs.declared.row.Row.{Row}
 use Rattle.rows.specs.Words.{rowAt}
 use Rattle.propagate.specs.Memory.{memory, stepped, nodePlace}
 use Rattle.readers.specs.Readers.{NodeMarked, grown}
-use Rattle.closure.specs.Sweep.{nodeStep}
+use Rattle.closure.specs.MemoryRules.{nodeStep}
 use Rattle.events.proofs.VisitNode.{visit-none, visit-sized, visit-calm, visit-loud}
 use Rattle.events.proofs.SettingFacts.{few-states, few-nodes, node-here, levels-in}
 use Rattle.events.proofs.visit.node_visit.Statement.{statement}
