@@ -8,7 +8,7 @@ ghost use Rattle.closure.specs.Knowledge.{level_size};
 ghost use Rattle.closure.specs.Bases.{AreBases};
 
 // Where those of each node begin, and how many there are in all.
-#[derive(Drop)]
+#[derive(Clone, Copy)]
 pub struct Bases {
     pub at: [usize; 32],
     pub total: usize,

@@ -1,4 +1,6 @@
 // The closure of a set of literals: what it is, and unit propagation over rows of machine words.
+#![tactic(auto)]
+
 mod answer;
 mod bases;
 mod kept;

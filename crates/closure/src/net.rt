@@ -1,7 +1,7 @@
 // What propagation is told of a table beside its bytes.
 
 // The counts of states and nodes, and the initial states.
-#[derive(Drop)]
+#[derive(Clone, Copy)]
 pub struct Net {
     pub states: usize,
     pub nodes: usize,

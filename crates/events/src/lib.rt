@@ -1,4 +1,6 @@
 // The closure of a set of literals, by events: a cell is looked at again only when something that it reads has changed.
+#![tactic(auto)]
+
 mod nodes;
 mod sweep;
 mod visit;

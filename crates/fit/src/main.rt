@@ -1,4 +1,6 @@
 // Reads a sheet from standard input and prints what the fitter answers. Where reading fails nothing is printed.
+#![tactic(auto)]
+
 mod input;
 
 use input::{Input, read_input};

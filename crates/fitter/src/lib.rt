@@ -1,4 +1,6 @@
 // The face of the fitter to C: every call answers a number, and leaves in every lent buffer what its contract says.
+#![tactic(auto)]
+
 ghost use Rattle.std.specs.Prelude.{◌≡◌, length};
 ghost use Rattle.table.specs.Verdict.{verdict_number};
 ghost use Rattle.ctl.specs.Tests.{judge_verdict};

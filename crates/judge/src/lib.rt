@@ -1,4 +1,6 @@
 // The judge: is a list a repair of a table, in the narrower sense?
+#![tactic(auto)]
+
 mod reached;
 
 ghost use Rattle.std.specs.Prelude.{◌≡◌};

@@ -13,7 +13,7 @@ use crate::rows::{is_total, kept_rows, kept_states};
 use table::{Refusal, Verdict};
 
 // What a lent buffer must have an entry for, and how many it has.
-#[derive(Drop)]
+#[derive(Clone, Copy)]
 pub enum Room {
     Any,
     Nodes(usize),
@@ -21,7 +21,7 @@ pub enum Room {
 }
 
 // The verdict and, where it accepts, the kept next states of each state, the initial states, the kept states, the root's set and the set of each node.
-#[derive(Drop)]
+#[derive(Clone, Copy)]
 pub struct Analysis {
     pub verdict: Verdict,
     pub rows: [u32; 32],

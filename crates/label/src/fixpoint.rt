@@ -6,7 +6,7 @@ ghost use Rattle.ctl.specs.Rule.{quantifier_at};
 use table::Family;
 
 // The path quantifier: on every path, or on some path.
-#[derive(Drop)]
+#[derive(Clone, Copy)]
 pub enum Quantifier {
     Every,
     Some,

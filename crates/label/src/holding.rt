@@ -9,7 +9,7 @@ use crate::analysis::{Room, analyse};
 use table::{Refusal, Verdict};
 
 // The number of states, or why the call refused.
-#[derive(Drop)]
+#[derive(Clone, Copy)]
 pub enum Holding {
     Count(u32),
     Refused(Refusal),

@@ -1,4 +1,6 @@
 // Labels: the set of states of each node of a table, under a kept list. Label and Holding.
+#![tactic(auto)]
+
 mod analysis;
 mod fixpoint;
 mod holding;

@@ -8,7 +8,7 @@ use rows::{Joined, Report, Row, add, ahead, both, go_back, is_none, join, mask, 
 use table::Family;
 
 // A fixed-point node: its family, its number and children, whether it is of every path, and where its levels lie.
-#[derive(Drop)]
+#[derive(Clone, Copy)]
 pub struct Fixpoint {
     pub family: Family,
     pub node: usize,

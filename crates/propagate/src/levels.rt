@@ -8,7 +8,7 @@ use crate::level::{Fixpoint, level_row, level_step};
 use rows::{Report, Row, both, is_quiet, is_same};
 
 // The states to look at, and the level looked at last: whether it added nothing, its row and that of the level below it.
-#[derive(Drop)]
+#[derive(Clone, Copy)]
 pub struct Seen {
     pub look: u32,
     pub quiet: bool,
@@ -17,7 +17,7 @@ pub struct Seen {
 }
 
 // What looking at a level did.
-#[derive(Drop)]
+#[derive(Clone, Copy)]
 pub struct LevelVisit {
     pub report: Report,
     pub seen: Seen,

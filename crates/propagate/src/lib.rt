@@ -1,4 +1,6 @@
 // The rules on rows applied to a memory: what they add goes where its rows lie. Nothing here speaks of a table.
+#![tactic(auto)]
+
 mod gates;
 mod layout;
 mod level;

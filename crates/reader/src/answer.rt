@@ -2,7 +2,7 @@
 use table::Refusal;
 
 // The length of the packed table, or why the text is refused.
-#[derive(Drop)]
+#[derive(Clone, Copy)]
 pub enum Read {
     Length(usize),
     Refused(Refusal),

@@ -1,4 +1,6 @@
 // Read: the text of a sheet in, a packed table or a refusal out.
+#![tactic(auto)]
+
 mod answer;
 mod copy;
 mod pack;

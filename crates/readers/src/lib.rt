@@ -1,4 +1,6 @@
 // Who reads what, and the words of the states to look at.
+#![tactic(auto)]
+
 mod marking;
 mod table_readers;
 

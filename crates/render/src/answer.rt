@@ -2,7 +2,7 @@
 use table::Refusal;
 
 // The length of the sheet, or why the table is refused.
-#[derive(Drop)]
+#[derive(Clone, Copy)]
 pub enum Rendered {
     Length(usize),
     Refused(Refusal),

@@ -1,4 +1,6 @@
 // Writing a packed table back as a sheet, and the pieces of text that other crates write too.
+#![tactic(auto)]
+
 mod answer;
 mod emit;
 mod write_block;

@@ -1,4 +1,6 @@
 // Repair: the cheapest repair of a table, searched for under a cap and struck, in buffers that the caller lends.
+#![tactic(auto)]
+
 mod answer;
 mod clear;
 mod net;

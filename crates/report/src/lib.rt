@@ -1,4 +1,6 @@
 // What program `fit` prints for the bytes that it reads.
+#![tactic(auto)]
+
 mod answer;
 mod lines;
 mod steps;

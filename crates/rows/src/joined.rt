@@ -6,7 +6,7 @@ use crate::row::{Row, turn};
 use table::Family;
 
 // What the level and the children a and b get, N with what the level adds to it, that alone, and whether G or N is known both ways.
-#[derive(Drop)]
+#[derive(Clone, Copy)]
 pub struct Joined {
     pub level: Row,
     pub a: Row,

@@ -1,4 +1,6 @@
 // Rows of machine words, what is known of a variable at each state, and the rules on them.
+#![tactic(auto)]
+
 mod joined;
 mod next;
 mod row;

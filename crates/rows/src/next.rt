@@ -26,7 +26,7 @@ pub fn ahead(targets: &[u32], rows: &[u32], set: u32, end: Row) -> Row
 }
 
 // What N at one state adds to the steps out of it, and to what is known at their ends.
-#[derive(Drop)]
+#[derive(Clone, Copy)]
 pub struct Pushed {
     pub steps: Row,
     pub end: Row,
@@ -56,7 +56,7 @@ fn push(target: u32, step: Row, end: Row, yes: bool, no: bool) -> Pushed
 }
 
 // What going back from N found: what is added to the row of the ends, and the report on the step rows.
-#[derive(Drop)]
+#[derive(Clone, Copy)]
 pub struct Back {
     pub end: Row,
     pub report: Report,

@@ -5,14 +5,14 @@ ghost use Rattle.rows.specs.Rules.{masked, new_of, is_none};
 ghost use Rattle.rows.specs.Words.{row_at, joined, report_of, step_report, both_reports, quiet, step_place};
 
 // The states where the variable is known true, and those where it is known false.
-#[derive(Drop)]
+#[derive(Clone, Copy)]
 pub struct Row {
     pub yes: u32,
     pub no: u32,
 }
 
 // What a rule did: whether it added a bit, whether something is now known both ways, and the states whose steps got a bit.
-#[derive(Drop)]
+#[derive(Clone, Copy)]
 pub struct Report {
     pub changed: bool,
     pub fails: bool,

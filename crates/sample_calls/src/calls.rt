@@ -1,7 +1,7 @@
 // The calls, on buffers that are long enough for every sample.
 
 // What Repair gives: its number, and the choices, the price and the settled steps that it stored.
-#[derive(Drop)]
+#[derive(Clone, Copy)]
 pub struct Repaired {
     pub number: u32,
     pub choices: u64,

@@ -1,1 +1,2 @@
 // 01's sample tables, worked out from the definitions.
+#![tactic(auto)]

@@ -3,14 +3,14 @@ ghost use Rattle.std.specs.Prelude.{◌≡◌};
 ghost use Rattle.search.specs.Finds.{beats};
 
 // The price of the cheapest find. Its list stands in a buffer of the search's own: the lent one is written once the search has ended.
-#[derive(Drop)]
+#[derive(Clone, Copy)]
 pub enum Best {
     Unfound,
     Cheapest(u32),
 }
 
 // All of it was tried, with the cheapest find and the choices made by then; or the cap was reached.
-#[derive(Drop)]
+#[derive(Clone, Copy)]
 pub enum Walked {
     Passed(Best, u64),
     Cut(u64),

@@ -2,13 +2,13 @@
 ghost use Rattle.std.specs.Prelude.{◌≡◌, ◌≤◌};
 ghost use Rattle.search.specs.Counted.{counted};
 
-#[derive(Drop)]
+#[derive(Clone, Copy)]
 pub struct Choices {
     pub made: u64,
     pub cap: u64,
 }
 
-#[derive(Drop)]
+#[derive(Clone, Copy)]
 pub enum Choice {
     Next(Choices),
     AtCap,

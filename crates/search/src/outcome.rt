@@ -1,6 +1,6 @@
 // The answer of a search: what is found has its price, and each answer the choices made and how many steps were settled before the first. The list that
 // was found stays in its lent buffer.
-#[derive(Drop)]
+#[derive(Clone, Copy)]
 pub enum Outcome {
     Found(u32, u64, u32),
     None(u64, u32),

@@ -1,3 +1,5 @@
+#![tactic(auto)]
+
 ghost use Rattle.std.specs.Prelude.{◌≡◌, not, ◌&&◌, ◌||◌, eqb, ltb};
 ghost use Rattle.sets.specs.Member.{member, set_of, count_of, lowest_of};
 

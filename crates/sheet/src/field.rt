@@ -12,7 +12,7 @@ pub const ZERO: u8 = 48;
 const NINE: u8 = 57;
 
 // The value and the place behind it.
-#[derive(Drop)]
+#[derive(Clone, Copy)]
 pub enum Field {
     Value(usize, usize),
     Broken,

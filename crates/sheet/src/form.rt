@@ -9,7 +9,7 @@ use crate::place::Block;
 use table::Counts;
 
 // The counts, and where the lines of the states, the steps and the nodes begin.
-#[derive(Drop)]
+#[derive(Clone, Copy)]
 pub enum Form {
     Sheet(Counts, usize, usize, usize),
     Broken,

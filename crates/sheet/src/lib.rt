@@ -1,4 +1,6 @@
 // The sheet: whether a text is of its form, and the values of its lines.
+#![tactic(auto)]
+
 mod block;
 mod field;
 mod form;

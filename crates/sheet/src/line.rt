@@ -6,25 +6,25 @@ ghost use Rattle.sheet.specs.Place.{counts_read, state_read, step_read, node_rea
 use crate::field::{Field, NEWLINE, SPACE, read_field};
 use table::{Counts, Node, State, Step};
 
-#[derive(Drop)]
+#[derive(Clone, Copy)]
 pub enum CountsLine {
     Values(Counts, usize),
     Broken,
 }
 
-#[derive(Drop)]
+#[derive(Clone, Copy)]
 pub enum StateLine {
     Values(State, usize),
     Broken,
 }
 
-#[derive(Drop)]
+#[derive(Clone, Copy)]
 pub enum StepLine {
     Values(Step, usize),
     Broken,
 }
 
-#[derive(Drop)]
+#[derive(Clone, Copy)]
 pub enum NodeLine {
     Values(Node, usize),
     Broken,

@@ -5,7 +5,7 @@ ghost use Rattle.table.specs.Table.{counts_of, packed_length};
 use crate::part::byte_at;
 use crate::width::{HEADER_WIDTH, NODE_WIDTH, STATE_WIDTH, STEP_WIDTH};
 
-#[derive(Drop)]
+#[derive(Clone, Copy)]
 pub struct Counts {
     pub states: usize,
     pub steps: usize,

@@ -5,7 +5,7 @@ ghost use Rattle.table.specs.Family.{family_of, second_of};
 use crate::record::Node;
 
 // What a fixed-point kind says along a path: a V b, a U b, F b or G b. Each has levels, and differs in what a level joins.
-#[derive(Drop)]
+#[derive(Clone, Copy)]
 pub enum Family {
     Release,
     Until,

@@ -1,4 +1,6 @@
 // The packed table: its counts, sections and records, and the numbers of the refusals. Knows nothing of what a formula means.
+#![tactic(auto)]
+
 mod counts;
 mod family;
 mod part;

@@ -6,20 +6,20 @@ ghost use Rattle.table.specs.Table.{state_width, step_width, node_width, state_o
 use crate::part::byte_at;
 use crate::width::{NODE_WIDTH, STATE_WIDTH, STEP_WIDTH};
 
-#[derive(Drop)]
+#[derive(Clone, Copy)]
 pub struct State {
     pub initial: usize,
     pub label: usize,
 }
 
-#[derive(Drop)]
+#[derive(Clone, Copy)]
 pub struct Step {
     pub from: usize,
     pub to: usize,
     pub price: usize,
 }
 
-#[derive(Drop)]
+#[derive(Clone, Copy)]
 pub struct Node {
     pub kind: usize,
     pub a: usize,

@@ -3,7 +3,7 @@ ghost use Rattle.std.specs.Prelude.{◌≡◌};
 ghost use Rattle.table.specs.Verdict.{refusal_number, verdict_number};
 
 // Why a call refuses its input, in the order of the numbers: 1 to 13, and 16, since 14 and 15 are Repair's none and spent.
-#[derive(Drop)]
+#[derive(Clone, Copy)]
 pub enum Refusal {
     SheetForm,
     Length,
@@ -22,7 +22,7 @@ pub enum Refusal {
 }
 
 // The answer of a test: accepted, or refused and why.
-#[derive(Drop)]
+#[derive(Clone, Copy)]
 pub enum Verdict {
     Accepted,
     Refused(Refusal),

@@ -3,7 +3,7 @@ ghost use Rattle.std.specs.Prelude.{◌≡◌};
 ghost use Rattle.table.specs.Accept.{shape_of};
 
 // What the fields a and b of a kind are: unused, a proposition, one child or two.
-#[derive(Drop)]
+#[derive(Clone, Copy)]
 pub enum Shape {
     Constant,
     Proposition,

@@ -1,12 +1,12 @@
 // How many vectors there were and how many agreed, by expected number and in all, and with how many accepted tables the count of
 // variables agreed.
-#[derive(Drop)]
+#[derive(Clone, Copy)]
 pub struct Count {
     pub vectors: u64,
     pub agreed: u64,
 }
 
-#[derive(Drop)]
+#[derive(Clone, Copy)]
 pub struct Tally {
     pub by_number: [Count; 16],
     pub all: Count,

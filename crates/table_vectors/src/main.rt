@@ -3,6 +3,8 @@
 //
 // A line: kind (table or list), expected number, count (of an accepted table its variables, of a list its table's steps), and the
 // bytes in hex. Tabs stand between, `-` for empty or none, and a line of names comes first.
+#![tactic(auto)]
+
 mod count;
 mod report;
 mod text;

@@ -7,7 +7,7 @@ const TAB: u8 = 9;
 const NEWLINE: u8 = 10;
 
 // The first byte of the kind's name, the expected number, and the count.
-#[derive(Drop)]
+#[derive(Clone, Copy)]
 struct Expected {
     kind: u8,
     number: usize,

@@ -1,4 +1,6 @@
 // The two tries in code: what a closure comes to, and the search of a table.
+#![tactic(auto)]
+
 mod reach;
 mod start;
 mod tries;

@@ -14,7 +14,7 @@ use closure::{Closure, Net};
 use search::{Best, lowest_unsettled, struck_price, undercuts, write_list};
 
 // The cheapest find, or the lowest step left unsettled.
-#[derive(Drop)]
+#[derive(Clone, Copy)]
 pub enum Reached {
     Ended(Best),
     Unsettled(usize),

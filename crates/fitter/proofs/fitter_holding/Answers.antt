@@ -1,0 +1,18 @@
+-- `fitter_holding` meets its contract: Holding's buffer, and its answer taken apart into a number and a count.
+use mathlib.Core.Path.{sym, ap, ◌∙◌}
+use Rattle.label.specs.declared.holding.Holding.{Holding}
+use Rattle.label.specs.Calls.{holding_number}
+use Rattle.fitter.specs.Exports.{holding_count}
+use Rattle.fitter.proofs.fitter_holding.Goals as goal
+
+pub returns-in-Count : goal.returns-in-Count
+returns-in-Count c =
+    let a = c.args in
+    let answer = sym c.holding_states.ensures.value ∙ c.k-1.given.1 in
+    (sym (ap holding_number answer), (c.holding_states.ensures.out_after, sym (ap (λ (h : Holding). holding_count h a.count.now) answer)))
+
+pub returns-in-Refused : goal.returns-in-Refused
+returns-in-Refused c =
+    let a = c.args in
+    let answer = sym c.holding_states.ensures.value ∙ c.refusal-1.given.1 in
+    (c.refusal_number.ensures ∙ sym (ap holding_number answer), (c.holding_states.ensures.out_after, sym (ap (λ (h : Holding). holding_count h a.count.now) answer)))

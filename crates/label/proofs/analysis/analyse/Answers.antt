@@ -1,0 +1,94 @@
+-- `analyse` meets its contract: each way out has decided the tests up to its own.
+use Prim.Native.Nat.{ℕ}
+use mathlib.Core.Path.{◌≡◌, sym, ap, ◌∙◌}
+use mathlib.Core.Bool.{Bool}
+use mathlib.Core.List.{List}
+use borrow.Author.Tests.{not-true, not-false, eqb-true}
+use lib.ListN.{length}
+use Rattle.table.specs.declared.counts.Counts.{Counts}
+use Rattle.table.specs.declared.refusal.Refusal.TheVariants.{ShortBuffer, ListForm}
+use Rattle.table.specs.declared.refusal.Verdict.{Verdict}
+use Rattle.table.specs.declared.refusal.Verdict.TheVariants.{Accepted}
+use Rattle.table.specs.Table.{table_of, counts_of}
+use Rattle.table.specs.Accept.{table_verdict, list_verdict}
+use Rattle.table.proofs.Accepted.{states_are, steps_are, nodes_are}
+use Rattle.table.proofs.Bools.{and_parts}
+use Rattle.table.proofs.Verdicts.{require_accepted}
+use Rattle.label.specs.declared.analysis.Room.{Room}
+use Rattle.label.specs.Analysis.{room_for, room_fits, analysis_verdict, analysis_at}
+use Rattle.label.proofs.Order.{refused_analysis, table_refused, list_refused, room_refused, room_passed}
+use Rattle.label.proofs.analysis.analyse.Goals as goal
+
+module _ (table : List ℕ) (k : Counts) (e : k ≡ counts_of table) where
+  -- what the code tested of the list and of the room is what the definitions test
+  list_is : (list : List ℕ) (v : Verdict) → v ≡ list_verdict k.steps list → v ≡ list_verdict (length (table_of table).steps) list
+  list_is list v f = f ∙ ap (λ (m : ℕ). list_verdict m list) (steps_are table k e)
+
+  room_is : (room : Room) (b : Bool) → b ≡ room_for room k.states k.nodes → b ≡ room_fits room (table_of table)
+  room_is room b f = f ∙ (λ j. room_for room (states_are table k e j) (nodes_are table k e j))
+
+-- a list of the form is as long as the steps
+list_length : (m : ℕ) (list : List ℕ) → list_verdict m list ≡ Accepted → length list ≡ m
+unfolding list_verdict
+list_length m list e = eqb-true (length list) m (and_parts _ _ (require_accepted ListForm _ e)).0
+
+-- the table passed its tests
+table-passed : (c : goal.In_default) → table_verdict c.args.table.now ≡ Accepted
+table-passed c = sym c.check_table-first.ensures ∙ c.enum_told-1.given.1
+
+-- and the list is of the form
+list-passed : (c : goal.In_default-second)
+    → list_verdict (length (table_of c.args.table.now).steps) c.args.list.now ≡ Accepted
+list-passed c =
+    let k = c.counts_of-c in
+    let v = c.check_list-second in
+    sym (list_is c.args.table.now k.result k.ensures c.args.list.now v.result v.ensures) ∙ c.enum_told-in_default-second-1.given.1
+
+pub returns-in-Refused : goal.returns-in-Refused
+returns-in-Refused c =
+    let a = c.args in
+    let t = a.table.now in
+    let l = a.list.now in
+    let r = c.first-1.given.0.0 in
+    refused_analysis (analysis_verdict a.room t l) r (table_of t) l c.refused.result
+    (table_refused a.room t l r (sym c.check_table-first.ensures ∙ c.first-1.given.1)) c.refused.ensures
+
+pub returns-in-Refused-second : goal.returns-in-Refused-second
+returns-in-Refused-second c =
+    let a = c.args in
+    let t = a.table.now in
+    let l = a.list.now in
+    let k = c.counts_of-c in
+    let v = c.check_list-second in
+    let r = c.second-1.given.0.0 in
+    refused_analysis (analysis_verdict a.room t l) r (table_of t) l c.refused-in-Refused-second.result
+    (list_refused a.room t l (table-passed c) r
+    (sym (list_is t k.result k.ensures l v.result v.ensures) ∙ c.second-1.given.1)) c.refused-in-Refused-second.ensures
+
+pub returns-then-not-room_fits : goal.returns-then-not-room_fits
+returns-then-not-room_fits c =
+    let a = c.args in
+    let t = a.table.now in
+    let l = a.list.now in
+    let k = c.counts_of-c in
+    let short = sym (room_is t k.result k.ensures a.room c.room_fits.result c.room_fits.ensures) ∙ not-true _ c.if-not-room_fits.true in
+    refused_analysis (analysis_verdict a.room t l) ShortBuffer (table_of t) l c.refused-then-not-room_fits.result
+    (room_refused a.room t l (table-passed c) (list-passed c) short) c.refused-then-not-room_fits.ensures
+
+pub analysed-requires : goal.analysed-requires
+analysed-requires c =
+    let a = c.args in
+    let t = a.table.now in
+    let l = a.list.now in
+    let k = c.counts_of-c in
+    (table-passed c, (list_length (length (table_of t).steps) l (list-passed c), (states_are t k.result k.ensures, nodes_are t k.result k.ensures)))
+
+pub returns : goal.returns
+returns c =
+    let a = c.args in
+    let t = a.table.now in
+    let l = a.list.now in
+    let k = c.counts_of-c in
+    let fits = sym (room_is t k.result k.ensures a.room c.room_fits.result c.room_fits.ensures) ∙ not-false _ c.if-not-room_fits.false in
+    c.analysed.ensures
+    ∙ sym (ap (λ (v : Verdict). analysis_at v (table_of t) l) (room_passed a.room t l (table-passed c) (list-passed c) fits))

@@ -1,0 +1,19 @@
+-- `pack_states` meets its contract. The loop's invariant: what is left to store makes of the buffer what all would make of it.
+-- `pack_states` meets its contract. The loop's invariant: what is left to store makes of the buffer what all would make of it.
+use Prim.Native.Nat.{◌+◌, ◌*◌, ◌≤◌}
+use mathlib.Core.Path.{◌≡◌}
+use lib.ListN.{length, drop}
+use Rattle.sheet.specs.Parse.{state_parser}
+use Rattle.reader.specs.Read.{pack_state}
+use Rattle.reader.proofs.Packing.{lines_stored}
+use Rattle.table.specs.Table.{state_width}
+use Rattle.reader.proofs.pack.pack_states.Given as goal
+
+abbrev pub invariant-loop-left : goal.invariant-loop-left
+invariant-loop-left l =
+    (length l.packed ≡ length l.initial.packed)
+    × (l.to + state_width * l.left ≤ length l.initial.packed)
+    × (lines_stored state_parser pack_state l.packed l.to l.left (drop l.place l.text) ≡ lines_stored state_parser pack_state l.initial.packed l.from l.count (drop l.at l.text))
+
+abbrev pub decreases-loop-left : goal.decreases-loop-left
+decreases-loop-left l = l.left

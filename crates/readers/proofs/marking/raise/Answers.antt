@@ -1,0 +1,45 @@
+-- `raise` meets its contract: each word named grows by the set, one after the other.
+use Prim.Native.Nat.{ℕ, ◌<◌}
+use mathlib.Core.Path.{sym, subst}
+use mathlib.Core.Bool.{true}
+use native.Mathlib.Omega.{arith}
+use Rattle.sets.specs.Member.{member, count_of}
+use Rattle.sets.proofs.Walk.{Left, left_first, next_below, left_next, left_fewer}
+use Rattle.readers.proofs.MarkLaws.{raised_none, raised_then, Gone, gone_first, gone_next, gone_last}
+use Rattle.readers.proofs.marking.raise.Invariants.{Has}
+use Rattle.readers.proofs.marking.raise.Goals as goal
+
+-- the next member is a state
+low : (c : goal.After-lowest-i) → c.lowest-i.result < 32
+low c = next_below _ c.loop-left.left _ c.loop-left.invariant.0 c.loop-left-test.true c.lowest-i.ensures
+
+pub loop-left-init : goal.loop-left-init
+loop-left-init c = (left_first _ c.ranges.nodes.fits, raised_none _, gone_first _ _)
+
+pub put-requires : goal.put-requires
+put-requires c = omega (arith, low c, c.loop-left.invariant.1.same_length, c.requires)
+
+pub loop-left-smaller : goal.loop-left-smaller
+loop-left-smaller c =
+    let l = c.loop-left in
+    subst (λ (w : ℕ). count_of 32 (member w) < count_of 32 (member l.left)) (sym c.remove-left.ensures)
+    (left_fewer _ l.left _ l.invariant.0 c.loop-left-test.true c.lowest-i.ensures)
+
+pub loop-left-preserved : goal.loop-left-preserved
+loop-left-preserved c =
+    let a = c.args in
+    let l = c.loop-left in
+    let low = c.lowest-i in
+    let put = c.put in (
+      subst (Left a.nodes) (sym c.remove-left.ensures) (left_next a.nodes l.left low.result l.invariant.0 c.loop-left-test.true low.ensures),
+      raised_then l.invariant.1 put.ensures.raised,
+      subst (λ (w : ℕ). Gone a.nodes w (Has put.new.words a.set)) (sym c.remove-left.ensures)
+          (gone_next a.nodes l.left low.result (Has l.looks a.set) (Has put.new.words a.set)
+          (λ i p s m. put.ensures.raised.stays i s (p s m)) l.invariant.2 put.ensures.by_index),
+    )
+
+pub returns : goal.returns
+returns c =
+    let l = c.loop-left in
+    let each = gone_last _ l.left _ c.ranges.nodes.fits c.loop-left-test.false l.invariant.2 in
+    (l.invariant.1, λ i s m. each i m s)

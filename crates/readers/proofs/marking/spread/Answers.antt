@@ -1,0 +1,54 @@
+-- `spread` meets its contract: the readers of each member are added, one member after the other.
+use Prim.Native.Nat.{ℕ, ◌<◌}
+use mathlib.Core.Path.{◌≡◌, sym, subst}
+use mathlib.Core.Bool.{true}
+use mathlib.Core.Logic.{inl, inr}
+use native.Mathlib.Omega.{arith}
+use lib.Bits.{bit_or}
+use lib.ListN.{get_or}
+use Rattle.sets.specs.Member.{member, count_of}
+use Rattle.sets.proofs.Walk.{Left, left_first, next_below, left_next, left_fewer}
+use Rattle.rows.proofs.RowLaws.{or-true}
+use Rattle.readers.proofs.MarkLaws.{Gone, gone_first, gone_next, gone_last}
+use Rattle.readers.proofs.marking.spread.Invariants.{Spread}
+use Rattle.readers.proofs.marking.spread.Goals as goal
+
+-- the next member is a state
+low : (c : goal.After-lowest-t) → c.lowest-t.result < 32
+low c = next_below _ c.loop-left.left _ c.loop-left.invariant.0 c.loop-left-test.true c.lowest-t.ensures
+
+pub loop-left-init : goal.loop-left-init
+loop-left-init c = (left_first _ c.ranges.set.fits, λ t m. m, gone_first _ _)
+
+pub offset_bounds-readers-t : goal.offset_bounds-readers-t
+offset_bounds-readers-t c = omega (arith, low c)
+
+pub bounds-readers-t : goal.bounds-readers-t
+bounds-readers-t c = omega (arith, low c, c.requires)
+
+pub loop-left-smaller : goal.loop-left-smaller
+loop-left-smaller c =
+    let l = c.loop-left in
+    subst (λ (w : ℕ). count_of 32 (member w) < count_of 32 (member l.left)) (sym c.remove-left.ensures)
+    (left_fewer _ l.left _ l.invariant.0 c.loop-left-test.true c.lowest-t.ensures)
+
+pub loop-left-preserved : goal.loop-left-preserved
+loop-left-preserved c =
+    let a = c.args in
+    let l = c.loop-left in
+    let low = c.lowest-t in
+    let more = get_or a.readers.now low.result 0 in
+    let all = bit_or l.all more in
+    let stays : (s : ℕ) → member l.all s ≡ true → member all s ≡ true = λ s m. (or-true l.all more s).1 (inl m) in (
+      subst (Left a.set) (sym c.remove-left.ensures) (left_next a.set l.left low.result l.invariant.0 c.loop-left-test.true low.ensures),
+      λ t m. stays t (l.invariant.1 t m),
+      subst (λ (w : ℕ). Gone a.set w (Spread a.readers.now all)) (sym c.remove-left.ensures)
+          (gone_next a.set l.left low.result (Spread a.readers.now l.all) (Spread a.readers.now all)
+          (λ t p s m. stays s (p s m)) l.invariant.2 (λ s m. (or-true l.all more s).1 (inr m))),
+    )
+
+pub returns : goal.returns
+returns c =
+    let l = c.loop-left in
+    let each = gone_last _ l.left _ c.ranges.set.fits c.loop-left-test.false l.invariant.2 in
+    (l.invariant.1, λ t s m. each t m s)

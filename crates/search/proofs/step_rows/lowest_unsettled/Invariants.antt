@@ -1,0 +1,14 @@
+-- `lowest_unsettled` meets its contract. The loop's invariant: no step before j is unsettled.
+use Prim.Native.Nat.{ℕ, ◌-◌, ◌≤◌, ◌<◌}
+use mathlib.Core.Path.{◌≡◌}
+use mathlib.Core.Bool.{false}
+use lib.ListN.{length}
+use Rattle.table.specs.Table.{table_of}
+use Rattle.search.specs.StepRows.{is_unsettled}
+use Rattle.search.proofs.step_rows.lowest_unsettled.Given as goal
+
+abbrev pub invariant-loop-j : goal.invariant-loop-j
+invariant-loop-j l = (l.j ≤ l.e) × (l.e ≡ length (table_of l.table).steps) × ((i : ℕ) → i < l.j → is_unsettled (table_of l.table) l.rows i ≡ false)
+
+abbrev pub decreases-loop-j : goal.decreases-loop-j
+decreases-loop-j l = l.e - l.j

@@ -1,0 +1,18 @@
+-- `reach` meets its contract: what comes of the closure that was worked out.
+use Rattle.search.specs.Fine.{step_literals}
+use Rattle.walk.proofs.reach.reach.Goals as goal
+
+pub close-closed-requires : goal.close-closed-requires
+close-closed-requires c =
+    (c.requires.setting, (c.requires.sized, (c.requires.founded, c.requires.rest_but)))
+
+pub assess-requires : goal.assess-requires
+assess-requires c =
+    ((c.requires.setting.accepted, c.close-closed.ensures.closed.sized.rows_size), c.requires.table_in_bounds)
+
+pub returns : goal.returns
+returns c =
+    record {
+      sized = c.close-closed.ensures.closed.sized;
+      comes = λ P b fine between stores. c.assess.ensures _ P b fine (c.close-closed.ensures.closed.closes (step_literals P) between) c.close-closed.ensures.rest_but_2 stores;
+    }
