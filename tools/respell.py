@@ -25,6 +25,8 @@ STD = set(
     "length take drop map reverse get_or set cond and or not true false zero suc add mul sub le lt eq concat sum min max "
     "slice replicate all any eqb ltb leb pow shr shl mod div append refl sym ap yes no ones".split()
 )
+# A field of a record, which a name with _lem would not fit.
+CHOSEN = {"node-fits": "each_node_fits"}
 # Names of this kind are the check's own, not the repository's.
 MADE = re.compile(r"^(invariant|decreases|statement)(-|$)|^(Need|After|Then|Else|Start)-")
 
@@ -99,7 +101,7 @@ def declared(root):
                     every.add(m[4])
                     if in_specs and not m[1]:
                         specs.add(m[4])
-                    if m[1] and in_specs:
+                    if m[1] and (in_specs or m[2].startswith("pub ")):
                         fields.add(m[4])
                 for n in LET.findall(line):
                     every.add(n)
@@ -122,6 +124,7 @@ def table(root):
         new = dashes(snake(n), names)
         if (new in functions and n not in specs) or (new != n and new in every):
             new += "_lem"
+        new = CHOSEN.get(n, new)
         if new != n:
             out[n] = new
     return out, every, fields, rust

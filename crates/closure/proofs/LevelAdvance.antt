@@ -150,7 +150,7 @@ module _ (T : Table) (wf : Wellformed T) (targets : List ℕ) (ends : (s : ℕ) 
 
       more_in : Given T M (λ S. RowIn T S (ahead i (suc m)) J.more)
       more_in P given = subst (RowIn T (ForcedBy T P) (ahead i (suc m))) (sym (joined_more fam (masked look above) (masked look x) (masked look y) N))
-          (new_in T (ForcedBy T P) (ahead i (suc m)) J.ahead N N_small (J_in P given).ahead_in)
+          (new_in T (ForcedBy T P) (ahead i (suc m)) J.ahead N N_small (J_in P given).ahead_in_lem)
 
       -- ---- at a state of the set they join what the whole rows do
 
@@ -173,7 +173,7 @@ module _ (T : Table) (wf : Wellformed T) (targets : List ℕ) (ends : (s : ℕ) 
           (λ P given. (J_in P (advance_less two (ForcedBy T P) given)).a_in) in
           let three = advance_then T two left in
           let right = advance_node T wf _ three.sized J.b J_small.b b below.1
-          (λ P given. (J_in P (advance_less three (ForcedBy T P) given)).b-in) in
+          (λ P given. (J_in P (advance_less three (ForcedBy T P) given)).b_in) in
           let four = advance_then T three right in
           let back = go_back_more_advance T wf targets ends q J.more under under_small _ four.sized
           (λ P given s l z k steps. let old = advance_less four (ForcedBy T P) given in

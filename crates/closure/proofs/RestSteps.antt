@@ -58,12 +58,12 @@ module _ {target s : ℕ} {out end over : Row} (r : AheadRest target out end ove
   -- a true gate with a false end strikes the step, and with a kept step it makes the end true
   strikes : (t : ℕ) → member target t ≡ true → known gates true t ≡ true → known end false t ≡ true → known out false t ≡ true
   strikes t m e f = ⊎_elim (λ x. x) (⊎_elim
-      (λ g. absurd (r.clear-end t m g f))
+      (λ g. absurd (r.clear_end t m g f))
       (λ a. r.steps t false ((cond-true _ _ t).1 (a, (and-true target end.no t).1 (m, f)))))
       (why_met t e)
 
   reaches : (t : ℕ) → known gates true t ≡ true → known out true t ≡ true → known end true t ≡ true
-  reaches t e o = ⊎_elim (λ x. absurd (r.clear-out t o x)) (⊎_elim (λ g. g) (λ a. r.ends t true ((cond-true _ _ t).1 (a, o)))) (why_met t e)
+  reaches t e o = ⊎_elim (λ x. absurd (r.clear_out t o x)) (⊎_elim (λ g. g) (λ a. r.ends t true ((cond-true _ _ t).1 (a, o)))) (why_met t e)
 
   -- the gate is the opposite of an AND, of the step and of the opposite of the end
   pub edge_and : (t : ℕ) → member target t ≡ true → AndRow (turned false gates) out (turned false end) t
@@ -78,21 +78,21 @@ module _ {target s : ℕ} {out end over : Row} (r : AheadRest target out end ove
   }
 
   pub edge_clear : (t : ℕ) → member target t ≡ true → ClearAt t gates
-  edge_clear t m e f = let g = (and-true out.yes end.no t).0 f in r.clear-end t m (reaches t e g.0) g.1
+  edge_clear t m e f = let g = (and-true out.yes end.no t).0 f in r.clear_end t m (reaches t e g.0) g.1
 
   -- ---- all of them
 
   small_unmet : unmet target out end < 2 ^ 32
-  small_unmet = without_small target _ r.small-target
+  small_unmet = without_small target _ r.small_target
 
   -- an end that is not met has a gate that is not true, unless N is
   not_met : (t : ℕ) → member (unmet target out end) t ≡ true → known gates true t ≡ true → known over true s ≡ true
   not_met t u e =
-      let p = (unmet-true target out end r.small-out r.small-end t).0 u in
+      let p = (unmet-true target out end r.small_out r.small_end t).0 u in
       ⊎_elim (λ x. absurd (true≢false (sym x ∙ p.2))) (⊎_elim (λ x. absurd (true≢false (sym x ∙ p.3))) (λ a. a)) (why_met t e)
 
   unmet_target : (t : ℕ) → member (unmet target out end) t ≡ true → member target t ≡ true
-  unmet_target t u = ((unmet-true target out end r.small-out r.small-end t).0 u).1
+  unmet_target t u = ((unmet-true target out end r.small_out r.small_end t).0 u).1
 
   -- N is true where all gates are
   pub all_met : ((t : ℕ) → member target t ≡ true → known gates true t ≡ true) → known over true s ≡ true

@@ -129,7 +129,7 @@ fields_below p i (suc (suc (suc (suc (suc (suc (suc (suc (suc (suc (suc (suc (su
 
 -- the children of a node of a table have lower numbers than it
 pub children_below : (T : Table) → Wellformed T → (i : ℕ) → i < length T.nodes → Below i (operator_of (node_at T i))
-children_below T wf i h = fields_below T.props i (node_at T i).kind (node_at T i).a (node_at T i).b (wf.node_fits_lem i h)
+children_below T wf i h = fields_below T.props i (node_at T i).kind (node_at T i).a (node_at T i).b (wf.each_node_fits i h)
 
 -- what holds of each number below a node holds of the node's children
 pub of-children {ℓ} : (T : Table) → Wellformed T → {P : ℕ → Type ℓ} (i : ℕ) → i < length T.nodes

@@ -145,7 +145,7 @@ loops_wellformed = record {
   from_state = below_two (λ j. (step_at loops j).from < 2) (omega arith) (omega arith);
   to_state = below_two (λ j. (step_at loops j).to < 2) (omega arith) (omega arith);
   no_repeat = two_steps;
-  node_fits_lem = one_node;
+  each_node_fits = one_node;
 }
   where
     two_steps : (i j : ℕ) → i < j → j < 2 → same_step (step_at loops i) (step_at loops j) ≡ false

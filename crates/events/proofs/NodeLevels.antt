@@ -22,5 +22,5 @@ pub node_levels : (T : Table) → Wellformed T → (i : ℕ) → i < length T.no
     → level_base T i + 2 * (length T.states - 1) ≤ level_total T
 node_levels T wf i h k = elim (dec_lt (node_at T i).kind 16) [
   | yes l ↦ level-place T i _ _ _ _ h (fixpoint_kind (node_at T i) k l)
-  | no d ↦ absurd (last_kind T.props i (node_at T i).kind (node_at T i).a (node_at T i).b (wf.node_fits_lem i h) (omega (arith, d)))
+  | no d ↦ absurd (last_kind T.props i (node_at T i).kind (node_at T i).a (node_at T i).b (wf.each_node_fits i h) (omega (arith, d)))
 ]

@@ -137,7 +137,7 @@ module _ (table list buffer : List ℕ) where
         let few = held_few (table_of table) wf list in (
           held,
           record { each_once = record { each = held-member (table_of table) wf list; once = held_once (table_of table) list }; in_order = held_in_order (table_of table) list },
-          λ others r. held-only (table_of table) wf list others r.each-once.each r.in_order,
+          λ others r. held-only (table_of table) wf list others r.each_once.each r.in_order,
           b.1,
           sym b.1 ∙ held_count (table_of table) list,
           subst (λ (after : List ℕ). Written held buffer after) (sym (held_after Accepted b.0)) (front_written held buffer (length held) refl (omega (arith, room, few))),

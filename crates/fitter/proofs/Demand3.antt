@@ -93,8 +93,8 @@ module _ (table : List ℕ) (cap : ℕ) (list bytes words : List ℕ) (g : LongE
   module _ (h : choices (search_free T) ≤ cap) where
     none_exact : ((c : ℕ) × (k : ℕ) × (repair_answer table cap list bytes words ≡ None c k)) ↔ ((l : List ℕ) → ¬ Repair T l)
     none_exact = (
-      λ r. right.none-exact.0 (r.0, r.1, sym (right.same_within cap h) ∙ (none_back (repair_verdict table list bytes words) (search_under T cap) r.0 r.1 r.2).1),
-      λ no-repair. let r = right.none-exact.1 no-repair in (r.0, r.1, answered _ (within h _ r.2)),
+      λ r. right.none_exact.0 (r.0, r.1, sym (right.same_within cap h) ∙ (none_back (repair_verdict table list bytes words) (search_under T cap) r.0 r.1 r.2).1),
+      λ no-repair. let r = right.none_exact.1 no-repair in (r.0, r.1, answered _ (within h _ r.2)),
     )
 
     found_else : ((p : ℕ) × (c : ℕ) × (k : ℕ) × (repair_answer table cap list bytes words ≡ Found p c k)) ↔ ((l : List ℕ) × Repair T l)
@@ -102,7 +102,7 @@ module _ (table : List ℕ) (cap : ℕ) (list bytes words : List ℕ) (g : LongE
       where
         go : (l : List ℕ) → Repair T l → (o : Outcome) → search_free T ≡ o → (p : ℕ) × (c : ℕ) × (k : ℕ) × (repair_answer table cap list bytes words ≡ Found p c k)
         go l repair (found m p c k) e = (p, c, k, answered (found m p c k) (within h _ e))
-        go l repair (none c k) e = absurd (right.none-exact.0 (c, k, e) l repair)
+        go l repair (none c k) e = absurd (right.none_exact.0 (c, k, e) l repair)
         go l repair (spent c k) e = absurd (right.unspent c k e)
 
   together : (judged : List ℕ) → Together table cap list bytes words judged

@@ -88,7 +88,7 @@ module _ (rows : List ℕ) (starts reached left s : ℕ) (k : Looked rows starts
       (p.0, λ q. true≢false (sym (eq-eqb t s q) ∙ not-true _ p.1))
 
   without_in : (t : ℕ) → member left t ≡ true → ¬ (t ≡ s) → member (without left s) t ≡ true
-  without_in t e d = (in_set 32 _ t).1 (member_inside 32 left t k.left-small e, parts_and (member left t) _ e (ap not (ne_eqb t s d)))
+  without_in t e d = (in_set 32 _ t).1 (member_inside 32 left t k.left_small e, parts_and (member left t) _ e (ap not (ne_eqb t s d)))
 
   -- a state that is reached now, of which nothing is left, was reached, and nothing was left of it but of s
   looked_at : (u : ℕ) → member (with reached new) u ≡ true → member (with (without left s) new) u ≡ false
@@ -98,7 +98,7 @@ module _ (rows : List ℕ) (starts reached left s : ℕ) (k : Looked rows starts
       go : (b : Bool) → member left u ≡ b → Dec (u ≡ s) → (member left u ≡ false) ⊎ (u ≡ s)
       go false q d = inl q
       go true q (yes same) = inr same
-      go true q (no d) = absurd (true≢false (sym (with_left (without left s) new u (member_inside 32 left u k.left-small q) (without_in u q d)) ∙ f))
+      go true q (no d) = absurd (true≢false (sym (with_left (without left s) new u (member_inside 32 left u k.left_small q) (without_in u q d)) ∙ f))
 
   -- the next states of s are added, and s is looked at
   looked_next : Looked rows starts (with reached new) (with (without left s) new)
@@ -137,7 +137,7 @@ pub looked_turn : (rows : List ℕ) (starts reached left : ℕ) → Looked rows 
     → n ≡ added rows reached s → r ≡ with reached n → w ≡ without left s → l ≡ with w n
     → Looked rows starts r l × (to_look r l < to_look reached left)
 looked_turn rows starts reached left k d s n r w l s-is n-is r-is w-is l-is =
-    let low = lowest_below left k.left-small d in
+    let low = lowest_below left k.left_small d in
     let h : s < 32 = rw s-is low in
     let here : member left s ≡ true = ap (member left) s-is ∙ lowest_of-has 32 (member left) low in
     let r_all : r ≡ with reached (added rows reached s) = r-is ∙ ap (with reached) n-is in

@@ -43,7 +43,7 @@ module _ (rows next : List ℕ) (before : List Step) (g : Rows rows before) wher
   pub with_kept : (table : List ℕ) (j b k : ℕ) (x : Step) → ReadStep table j x → b ≡ 1 → k ≡ set_of 32 (λ t. member (get_or rows x.from 0) t || eqb t x.to)
       → next ≡ set rows x.from k → Rows next (before ++ if_kept b (step_at (table_of table) j))
   with_kept table j b k x r kept e n =
-      rw (n, e, eq-eqb b 1 kept, ← r.here) (rows_more rows before g x r.from-below r.to_below)
+      rw (n, e, eq-eqb b 1 kept, ← r.here) (rows_more rows before g x r.from_below r.to_below)
 
   pub with_struck : (b : ℕ) (x : Step) → ¬ (b ≡ 1) → next ≡ rows → Rows next (before ++ if_kept b x)
   with_struck b x d n = rw (n, ne_eqb b 1 d, append-nil) g

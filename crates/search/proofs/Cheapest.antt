@@ -40,7 +40,7 @@ module _ {e : ℕ} {Model : List ℕ → Type 0} {close : List (Literal ℕ) →
   -- a model that agrees with P keeps step k or strikes it
   kept_or_struck : (k : ℕ) → k < e → (P : List (Literal ℕ)) (list : List ℕ) → Among Model P list
       → Among Model (pos k ∷ P) list ⊎ Among Model (neg k ∷ P) list
-  kept_or_struck k inside P list a = by (get_or list k 0) refl (right.model-bits list a.0 k (rw (right.model-size list a.0) inside))
+  kept_or_struck k inside P list a = by (get_or list k 0) refl (right.model_bits list a.0 k (rw (right.model_size list a.0) inside))
     where
       by : (b : ℕ) → get_or list k 0 ≡ b → b ≤ 1 → Among Model (pos k ∷ P) list ⊎ Among Model (neg k ∷ P) list
       by zero q h = inr (a.0, member_more (AgreesWith list) q a.1)
@@ -62,7 +62,7 @@ module _ {e : ℕ} {Model : List ℕ → Type 0} {close : List (Literal ℕ) →
             let here = c.first.member.0 in
             record {
               step = k;
-              inside = rw (right.model-size l here.0) inside;
+              inside = rw (right.model_size l here.0) inside;
               agree = settled_same right s (omega arith) l list (among_less here) (among_less a);
               kept = here.1 (pos k) (Memᴰ.head refl);
               struck = a.1 (neg k) (Memᴰ.head refl);
@@ -97,7 +97,7 @@ module _ {e : ℕ} {Model : List ℕ → Type 0} {close : List (Literal ℕ) →
 
   -- a model that agrees with P costs no less than the marks of P
   marks_least : {P : List (Literal ℕ)} {m : Marks} {new : Bool} → Fine P → close P ≡ marked m new → (list : List ℕ) → Among Model P list → price m ≤ cost list
-  marks_least {P} {m} fine c list a = priced.least m list (λ j h q. right.mark-sound fine c list a.0 a.1 j false h q)
+  marks_least {P} {m} fine c list a = priced.least m list (λ j h q. right.mark_sound fine c list a.0 a.1 j false h q)
 
   -- what comes of P, of a walk that goes on to answer
   pursue_answers : (k : ℕ) (P : List (Literal ℕ)) → Fine P → (onward : List (Literal ℕ) → Marks → Best → ℕ → Walked)
@@ -107,7 +107,7 @@ module _ {e : ℕ} {Model : List ℕ → Type 0} {close : List (Literal ℕ) →
   pursue_answers k P fine onward stand answers b count = by (close P) refl
     where
       by : (p : Progress) → close P ≡ p → Walks P b (pursued p (λ n. undercuts (price n) b) P b count onward)
-      by clash q = stays refl (λ list a. absurd (right.clash-sound fine q list a.0 a.1))
+      by clash q = stays refl (λ list a. absurd (right.clash_sound fine q list a.0 a.1))
       by (marked m new) q = cheap (undercuts (price m) b) refl
         where
           cheap : (x : Bool) → undercuts (price m) b ≡ x → Walks P b (elim x [ true ↦ onward P m b count | false ↦ passed b count ])
@@ -162,7 +162,7 @@ module _ {e : ℕ} {Model : List ℕ → Type 0} {close : List (Literal ℕ) →
   -- all that is walked answers for all models
   all-answers : Walks [] unfound (walk_all uncapped close price (below e))
   all-answers = rw below_up_from
-      (pursue_answers 0 [] right.fine-none (walk uncapped close price (up_from 0 e)) (stands_first right) (walk_answers e 0 (omega arith) []) unfound 0)
+      (pursue_answers 0 [] right.fine_none (walk uncapped close price (up_from 0 e)) (stands_first right) (walk_answers e 0 (omega arith) []) unfound 0)
 
   -- the number of settled steps that each answer carries
   first : ℕ

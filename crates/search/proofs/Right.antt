@@ -28,7 +28,7 @@ settled-first T wf =
     let steps = below (length T.steps) in
     subst (SettledCount T [])
     (sym (settled_given (settled_below (length steps) (close [])) (walk_all uncapped close (mark_price T) steps) ∙ ap (λ (e : ℕ). settled_below e (close [])) (length_tabulate (length T.steps) (λ k. k))))
-    (settled_right T wf [] (closure-is_right T wf).fine-none)
+    (settled_right T wf [] (closure-is_right T wf).fine_none)
 
 -- The search finds the cheapest repair, the first in rank of those, or that there is none, and is cut at each cap.
 pub search_is_right : (T : Table) → Wellformed T → SearchIsRight T

@@ -27,7 +27,7 @@ module _ {e : ℕ} {Model : List ℕ → Type 0} {close : List (Literal ℕ) →
   -- at the start
   pub stands_first : (m : Marks) (b : Bool) → close [] ≡ marked m b → Stands 0 [] m
   stands_first m b c =
-      record { new = b; fine = right.fine-none; closed = c; held = member_none _; settled = λ j h. absurd (omega arith) }
+      record { new = b; fine = right.fine_none; closed = c; held = member_none _; settled = λ j h. absurd (omega arith) }
 
   -- past a settled step
   pub stands_next : {k : ℕ} {P : List (Literal ℕ)} {m : Marks} → Stands k P m → is_known (mark_at m k) ≡ true → Stands (suc k) P m
@@ -71,7 +71,7 @@ module _ {e : ℕ} {Model : List ℕ → Type 0} {close : List (Literal ℕ) →
       r = known_of (mark_at m j) (s.settled j h)
 
       bit : (list : List ℕ) → Among Model P list → get_or list j 0 ≡ cond r.0 1 0
-      bit list b = right.mark-sound s.fine s.closed list b.0 b.1 j r.0 (omega arith) r.1
+      bit list b = right.mark_sound s.fine s.closed list b.0 b.1 j r.0 (omega arith) r.1
 
   -- where every step is settled, the list of the marks is a model that agrees with P
   pub settled-member : {P : List (Literal ℕ)} {m : Marks} → Stands e P m → Among Model P (bytes_of e m)
@@ -83,6 +83,6 @@ module _ {e : ℕ} {Model : List ℕ → Type 0} {close : List (Literal ℕ) →
   -- and there is no other
   pub settled_only : {P : List (Literal ℕ)} {m : Marks} → Stands e P m → (list : List ℕ) → Among Model P list → list ≡ bytes_of e m
   settled_only {P} {m} s list a =
-      let size : length list ≡ e = right.model-size list a.0 in
+      let size : length list ≡ e = right.model_size list a.0 in
       ext_get_or 0 list (bytes_of e m) (size ∙ sym (length-bytes_of e m))
       (λ j h. settled_same s (omega arith) list (bytes_of e m) a (settled-member s) j (omega arith))

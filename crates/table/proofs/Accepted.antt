@@ -121,7 +121,7 @@ wellformed T w e =
       from_state = λ j h. (step_within (length T.states) (step_at T j) (step j h)).0;
       to_state = λ j h. (step_within (length T.states) (step_at T j) (step j h)).1;
       no_repeat = distinct_at T.steps _ t.3;
-      node_fits_lem = λ i h. subst (λ (k : ℕ). node_fits T.props k (node_at T i) ≡ true) (zero-add i) (nodes_fit_at T.props 0 T.nodes _ t.4 i h);
+      each_node_fits = λ i h. subst (λ (k : ℕ). node_fits T.props k (node_at T i) ≡ true) (zero-add i) (nodes_fit_at T.props 0 T.nodes _ t.4 i h);
     }
 
 -- accepted bytes have the facts of a packed table

@@ -46,7 +46,7 @@ read_node table ok i h section s x e =
     let here : x ≡ node_at (table_of table) i = e ∙ ap (λ (l : List ℕ). node_of (drop (node_width * i) l)) s ∙ node_read_lem table i h in
     let y = node_at (table_of table) i in
     let few = T.few_nodes in
-    let both = fields_below (shape_of y.kind) (table_of table).props i y.a y.b T.few_props (omega arith) (T.node_fits_lem i inside) in
+    let both = fields_below (shape_of y.kind) (table_of table).props i y.a y.b T.few_props (omega arith) (T.each_node_fits i inside) in
     record {
       here = here;
       a_below = omega (arith, ap (λ (z : Node). z.a) here, both.0);

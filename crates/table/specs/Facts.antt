@@ -16,7 +16,7 @@ pub record Wellformed (T : Table) : Type 0 where
   pub from_state : (j : ℕ) → j < length T.steps → (step_at T j).from < length T.states
   pub to_state : (j : ℕ) → j < length T.steps → (step_at T j).to < length T.states
   pub no_repeat : (i j : ℕ) → i < j → j < length T.steps → same_step (step_at T i) (step_at T j) ≡ false
-  pub node_fits_lem : (i : ℕ) → i < length T.nodes → node_fits T.props i (node_at T i) ≡ true
+  pub each_node_fits : (i : ℕ) → i < length T.nodes → node_fits T.props i (node_at T i) ≡ true
 
 -- of accepted bytes: the counts are those of the records, and a table is at most 580 bytes
 pub record Packed (bytes : List ℕ) : Type 0 where

@@ -20,7 +20,7 @@ module _ (T : Table) (wf : Wellformed T) (P : List (Literal ℕ)) (fine : Fine (
   pub closed_clash : (c.fails ≡ true) ↔ (closure_of T P ≡ clash)
   closed_clash =
       let exact = clash_exact T wf P fine in
-      (λ e. exact.1 (closes.fails-exact.0 e), λ e. closes.fails-exact.1 (exact.0 e))
+      (λ e. exact.1 (closes.fails_exact.0 e), λ e. closes.fails_exact.1 (exact.0 e))
 
   -- where it does not fail, it has marks
   pub closed_marked : c.fails ≡ false → (m : Marks) × (new : Bool) × (closure_of T P ≡ marked m new)

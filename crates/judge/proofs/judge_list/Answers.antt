@@ -112,6 +112,6 @@ pub returns-then-minus-ne0-2 : goal.returns-then-minus-ne0-2
 returns-then-minus-ne0-2 c = sym (root-left c ∙ ap (require RootFails) (ne_eqb c.minus-2.result 0 c.if-minus-ne0-2.true))
 
 pub returns : goal.returns
-returns c =
+returns-in-Refused c =
     c.enum_told-in_default-1.given.1
     ∙ sym (root-left c ∙ ap (require RootFails) (eq-eqb c.minus-2.result 0 c.if-minus-ne0-2.false))

@@ -54,7 +54,7 @@ run-answer-requires c =
     (ok_at k, (omega (arith, steps-at k), (omega (arith, c.variable_count-v.ensures), c.variable_count-v.ensures)))
 
 pub returns : goal.returns
-returns c =
+returns-in-Refused c =
     let a = (start k).args in
     let t = a.table.now in
     let count = variable_formula (table_of t) in

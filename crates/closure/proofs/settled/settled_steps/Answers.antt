@@ -40,7 +40,7 @@ unfolding count_of
 loop-j-init c = (zero-le, steps_are c.args.table.now c.counts_of-c.result c.counts_of-c.ensures, refl)
 
 pub is_settled-requires : goal.is_settled-requires
-is_settled-requires c = ((read c).from-below, c.requires.1)
+is_settled-requires c = ((read c).from_below, c.requires.1)
 
 pub overflow_add-count : goal.overflow_add-count
 overflow_add-count c =

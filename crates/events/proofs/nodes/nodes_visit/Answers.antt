@@ -72,7 +72,7 @@ loop-k-preserved c = (
 )
 
 pub returns : goal.returns
-returns c =
+returns-then-report c =
     let a = c.args in
     let l = c.loop-k in
     among_all a.down a.net.nodes l.k (omega arith) l.invariant.3

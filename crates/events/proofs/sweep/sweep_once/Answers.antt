@@ -52,7 +52,7 @@ nodes_visit-requires c =
     (p.setting, (first.advance.sized, first.size ∙ p.looks_len))
 
 pub returns : goal.returns
-returns c =
+returns-then-first c =
     let v = c.nodes_visit in
     let T = table_of c.args.table.now in
     subst (Looked T (Swept T) (RestStart T) c.args.looks.now v.new.looks.1.1.1.1.1.0 (memory c.args.rows.now c.args.words.now) (memory v.new.looks.1.1.1.0 v.new.looks.1.1.1.1.0)) (sym c.both.ensures)

@@ -60,7 +60,7 @@ loop-left-preserved c =
     )
 
 pub returns : goal.returns
-returns c =
+returns-then-report c =
     let a = c.args in
     let l = c.loop-left in
     λ w sized. kept_last (table_of a.table.now) a.look l.left c.ranges.look.fits c.loop-left-test.false _ _ _ (l.invariant.2 w sized)

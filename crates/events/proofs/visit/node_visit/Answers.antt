@@ -127,7 +127,7 @@ pub mark_steps-requires : goal.mark_steps-requires
 mark_steps-requires c = (c.requires.setting.reads.size, count c ∙ c.requires.looks_len.0)
 
 pub returns : goal.returns
-returns c =
+returns-then-word-eq0 c =
     let put = c.put in
     let own = c.note_node in
     let first = c.note_node-2 in

@@ -7,7 +7,7 @@ use Rattle.judge.proofs.reached.reached_states.Goals as goal
 
 -- the lowest state left is below 32
 low : (c : goal.After-lowest-s) → c.lowest-s.result < 32
-low c = rw c.lowest-s.ensures (lowest_below c.loop-left.left c.loop-left.invariant.left-small c.loop-left-test.true)
+low c = rw c.lowest-s.ensures (lowest_below c.loop-left.left c.loop-left.invariant.left_small c.loop-left-test.true)
 
 turn : (c : goal.After-union-left)
     → let l = c.loop-left in

@@ -84,7 +84,7 @@ analysed-requires c =
     (table-passed c, (list_length (length (table_of t).steps) l (list-passed c), (states_are t k.result k.ensures, nodes_are t k.result k.ensures)))
 
 pub returns : goal.returns
-returns c =
+returns-in-Refused c =
     let a = c.args in
     let t = a.table.now in
     let l = a.list.now in

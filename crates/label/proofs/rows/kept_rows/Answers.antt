@@ -28,26 +28,26 @@ offset_bounds-rows-from c =
     let a = c.args in
     let x = c.step_at-x.result in
     let r = read_step a.table.now c.requires.table_value c.loop-j.j (omega arith) c.steps_part-steps.result.now c.steps_part-steps.ensures x c.step_at-x.ensures in
-    omega (arith, r.from-below)
+    omega (arith, r.from_below)
 
 pub bounds-rows-from : goal.bounds-rows-from
 bounds-rows-from c =
     let a = c.args in
     let x = c.step_at-x.result in
-    (read_step a.table.now c.requires.table_value c.loop-j.j (omega arith) c.steps_part-steps.result.now c.steps_part-steps.ensures x c.step_at-x.ensures).from-below
+    (read_step a.table.now c.requires.table_value c.loop-j.j (omega arith) c.steps_part-steps.result.now c.steps_part-steps.ensures x c.step_at-x.ensures).from_below
 
 pub offset_bounds-rows-from-then-list-j-eq1 : goal.offset_bounds-rows-from-then-list-j-eq1
 offset_bounds-rows-from-then-list-j-eq1 c =
     let a = c.args in
     let x = c.step_at-x.result in
     let r = read_step a.table.now c.requires.table_value c.loop-j.j (omega arith) c.steps_part-steps.result.now c.steps_part-steps.ensures x c.step_at-x.ensures in
-    omega (arith, r.from-below)
+    omega (arith, r.from_below)
 
 pub bounds-rows-from-then-list-j-eq1 : goal.bounds-rows-from-then-list-j-eq1
 bounds-rows-from-then-list-j-eq1 c =
     let a = c.args in
     let x = c.step_at-x.result in
-    (read_step a.table.now c.requires.table_value c.loop-j.j (omega arith) c.steps_part-steps.result.now c.steps_part-steps.ensures x c.step_at-x.ensures).from-below
+    (read_step a.table.now c.requires.table_value c.loop-j.j (omega arith) c.steps_part-steps.result.now c.steps_part-steps.ensures x c.step_at-x.ensures).from_below
 
 pub loop-j-smaller : goal.loop-j-smaller
 loop-j-smaller c = omega arith

@@ -93,6 +93,6 @@ loop-k-preserved c =
     )
 
 pub returns : goal.returns
-returns c =
+returns-then-report c =
     let a = c.args in
     c.loop-k.invariant.4 ∙ ap (λ (k : ℕ). (levels_from a.targets.now a.n a.x a.down a.look k (memory a.rows.now a.words.now)).done) (omega arith)

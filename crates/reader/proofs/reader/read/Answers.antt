@@ -93,7 +93,7 @@ copy_front-requires c =
     omega arith
 
 pub returns : goal.returns
-returns c =
+returns-in_default c =
     let a = c.args in
     let l = a.out.now in
     let v = found c in

@@ -61,7 +61,7 @@ pub put-requires-3 : goal.put-requires-3
 put-requires-3 c = omega (arith, c.put-2.ensures.raised.same_length, c.put.ensures.raised.same_length, c.requires.1.1.1)
 
 pub returns : goal.returns
-returns c =
+returns-then-x-lt3 c =
     let i = c.args.i in
     let last = c.put-3.ensures in
     let before = raised_then c.put.ensures.raised c.put-2.ensures.raised in

@@ -1,7 +1,7 @@
 -- `put_bytes` meets its contract. The loop's invariant: the bytes from i on are left.
 use Prim.Native.Nat.{◌+◌, zero-le}
 use mathlib.Core.Path.{refl}
-use mathlib.Core.List.{◌∷◌}
+use mathlib.Core.List.{[], ◌∷◌}
 use native.Mathlib.Omega.{arith}
 use lib.ListN.{get_or, drop, set, length-drop, drop_of_length-le}
 use Rattle.table.proofs.Scan.{drop_next}

@@ -1,7 +1,7 @@
 -- `put_field` meets its contract: the number, then one byte.
 use Prim.Native.Nat.{◌+◌}
 use mathlib.Core.Path.{refl}
-use mathlib.Core.List.{◌∷◌}
+use mathlib.Core.List.{[], ◌∷◌}
 use native.Mathlib.Omega.{arith}
 use lib.ListN.{set, length-append}
 use Rattle.sheet.specs.Form.{decimal, ended}

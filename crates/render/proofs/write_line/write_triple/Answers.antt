@@ -1,5 +1,5 @@
 -- `write_triple` meets its contract, field by field.
-use mathlib.Core.List.{◌∷◌, ◌++◌}
+use mathlib.Core.List.{[], ◌∷◌, ◌++◌}
 use Rattle.sheet.specs.Form.{ended, line}
 use Rattle.render.proofs.Left.{left_all, left_room, left_room_all, left_next, left_end}
 use Rattle.render.proofs.write_line.write_triple.Goals as goal

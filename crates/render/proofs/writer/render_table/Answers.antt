@@ -73,7 +73,7 @@ copy_front-requires c =
     omega arith
 
 pub returns : goal.returns
-returns c =
+returns-in-Refused c =
     let a = c.args in
     let l = a.out.now in
     let text = render (sheet_of a.table.now) in

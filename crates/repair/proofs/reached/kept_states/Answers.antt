@@ -36,7 +36,7 @@ loop-j-preserved c =
     let x = w.1.result in
     let r = read_step table c.requires.table_value l.j inside part.result.now part.ensures x w.1.ensures in
     let from_is = ap (λ (y : Step). y.from) r.here in
-    rw w.3 (kept_with T list l.j l.auto l.invariant.1 inside w.0.taken (rw from_is at r.from-below) w.2.result (w.2.ensures ∙ ap (λ (s : ℕ). set_of 32 (λ t. member l.auto t || eqb t s)) from_is)))
+    rw w.3 (kept_with T list l.j l.auto l.invariant.1 inside w.0.taken (rw from_is at r.from_below) w.2.result (w.2.ensures ∙ ap (λ (s : ℕ). set_of 32 (λ t. member l.auto t || eqb t s)) from_is)))
     (λ w. rw w.1 (kept_without T list l.j l.auto l.invariant.1 w.0.left))
     c.if-list-j-eq1.branch in
     (omega arith, more)

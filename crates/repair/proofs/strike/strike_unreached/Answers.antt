@@ -46,7 +46,7 @@ loop-j-preserved c =
     let reached : c.contains.result ≡ is_reached T list (step_at T l.j).from =
     c.contains.ensures
     ∙ ap (λ (w : ℕ). member w x.result.from) c.reached_states-reached.ensures
-    ∙ member-set_of-below 32 (is_reached T list) x.result.from r.from-below
+    ∙ member-set_of-below 32 (is_reached T list) x.result.from r.from_below
     ∙ ap (λ (y : Step). is_reached T list y.from) r.here in
     let more : StruckBefore T list (l.j + 1) c.if-not-contains.list =
     ⊎_elim

@@ -1,7 +1,7 @@
 -- `write_refused` meets its contract: the names and the word, then the refusal's number.
 use Prim.Native.Nat.{ℕ}
 use mathlib.Core.Path.{◌≡◌, ap}
-use mathlib.Core.List.{List, ◌∷◌}
+use mathlib.Core.List.{List, [], ◌∷◌}
 use Rattle.table.specs.Verdict.{refusal_number}
 use Rattle.sheet.specs.Form.{ascii, ended, line}
 use Rattle.render.proofs.Left.{Left, left_all, left_room, left_room_all, left_next, left_end, room_as, stored_as}

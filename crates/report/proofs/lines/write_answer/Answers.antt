@@ -1,6 +1,6 @@
 -- `write_answer` meets its contract: the names, the word, the choices and the price are stored one behind the other.
 use Prim.Native.Nat.{ℕ}
-use mathlib.Core.List.{List, ◌∷◌, ◌++◌}
+use mathlib.Core.List.{List, [], ◌∷◌, ◌++◌}
 use Rattle.sheet.specs.Form.{ascii, ended, line}
 use Rattle.render.proofs.Left.{Left, left_all, left_room, left_room_all, left_next, left_end}
 use Rattle.report.specs.Report.{counted}

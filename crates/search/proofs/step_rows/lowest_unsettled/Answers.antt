@@ -26,7 +26,7 @@ is_settled-requires c =
     let l = c.loop-j in
     let part = c.steps_part-steps in
     let r = read_step c.args.table.now c.requires.0 l.j (omega arith) part.result.now part.ensures c.step_at-x.result c.step_at-x.ensures in
-    (r.from-below, c.requires.1)
+    (r.from_below, c.requires.1)
 
 pub returns-then-not-is_settled : goal.returns-then-not-is_settled
 returns-then-not-is_settled c =
@@ -58,7 +58,7 @@ loop-j-preserved c =
     (omega arith, l.invariant.1, below_more (λ i. is_unsettled T rows i ≡ false) l.j l.invariant.2 shut)
 
 pub returns : goal.returns
-returns c =
+returns-then-not-is_settled c =
     let l = c.loop-j in
     let T = table_of c.args.table.now in
     l.invariant.1 ∙ lowest_nowhere (length T.steps) (is_unsettled T c.args.rows.now) (λ i h. l.invariant.2 i (omega arith))

@@ -44,7 +44,7 @@ loop-j-init c =
 pub price_if_struck-price-requires : goal.price_if_struck-price-requires
 price_if_struck-price-requires c =
     let r = read c in
-    (r.0.from-below, rw r.0.here r.1, c.requires.1)
+    (r.0.from_below, rw r.0.here r.1, c.requires.1)
 
 pub overflow_add-price : goal.overflow_add-price
 overflow_add-price c =

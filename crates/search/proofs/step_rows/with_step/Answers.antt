@@ -20,10 +20,10 @@ read c =
 
 -- its word
 below : (c : goal.After-word_of-at) → c.word_of-at.result < 64
-below c = omega (arith, c.word_of-at.ensures, word_below c.args.kept c.step_at-x.result.from (read c).from-below)
+below c = omega (arith, c.word_of-at.ensures, word_below c.args.kept c.step_at-x.result.from (read c).from_below)
 
 pub word_of-at-requires : goal.word_of-at-requires
-word_of-at-requires c = (read c).from-below
+word_of-at-requires c = (read c).from_below
 
 pub offset_bounds-rows-at : goal.offset_bounds-rows-at
 offset_bounds-rows-at c = omega (arith, below c)

@@ -28,7 +28,7 @@ is_known-requires c =
     let l = c.loop-j in
     let part = c.steps_part-steps in
     let r = read_step c.args.table.now c.requires.0 l.j (omega arith) part.result.now part.ensures c.step_at-x.result c.step_at-x.ensures in
-    (r.from-below, c.requires.1)
+    (r.from_below, c.requires.1)
 
 pub bounds-list-j : goal.bounds-list-j
 bounds-list-j c = omega (arith, c.requires.2)

@@ -1,7 +1,7 @@
 -- `check_form` meets its contract: block by block, and nothing behind the last.
 use Prim.Native.Nat.{◌+◌}
 use mathlib.Core.Path.{◌≡◌, sym, ap, ◌∙◌}
-use mathlib.Core.List.{◌∷◌}
+use mathlib.Core.List.{[], ◌∷◌}
 use lib.ListN.{get_or, drop, drop_of_length-le}
 use Rattle.table.proofs.Scan.{drop_next}
 use Rattle.sheet.specs.Parse.{got, broken, counts_block, states_block, steps_block, nodes_block, state_parser, step_parser, node_parser, sheet_parser, parse}
@@ -65,7 +65,7 @@ returns-then-end-text c =
 
 pub returns : goal.returns
 unfolding parse sheet_parser
-returns c =
+returns-in_default c =
     let l = c.args.text.now in
     let v1 = c.counts-1.given in
     let e1 : counts_block l ≡ got v1.0.0 (drop v1.0.1.0 l) = sym c.counts_block.ensures ∙ ap (counts_read l) v1.1 in

@@ -33,7 +33,7 @@ loop-left-preserved c =
 
 pub returns : goal.returns
 unfolding times
-returns c =
+returns-in_default c =
     let a = c.args in
     let l = a.text.now in
     let k : c.loop-left.left ≡ 0 = omega arith in

@@ -1,7 +1,7 @@
 -- `target_sets` meets its contract. The loop's invariant: the rows are those of the steps before j.
 use Prim.Native.Nat.{◌+◌, ◌<◌, zero-le}
 use mathlib.Core.Path.{◌≡◌, sym, ap, ◌∙◌}
-use mathlib.Core.List.{◌∷◌, ◌++◌}
+use mathlib.Core.List.{[], ◌∷◌, ◌++◌}
 use native.Mathlib.Numerals.{add-one}
 use native.Mathlib.Omega.{arith}
 use lib.ListN.{length, take}
@@ -28,7 +28,7 @@ loop-j-preserved c =
     let xs = (table_of c.args.table.now).steps in
     let more : take (loop.j + 1) xs ≡ take loop.j xs ++ (x ∷ []) =
     rw (add-one loop.j, take-suc xs loop.j zero_step, r.here) in
-    let rows = rows_more loop.rows (take loop.j xs) loop.invariant.3 x r.from-below r.to_below in
+    let rows = rows_more loop.rows (take loop.j xs) loop.invariant.3 x r.from_below r.to_below in
     (omega arith, loop.invariant.1, loop.invariant.2, rw (more, c.insert.ensures) rows)
 
 -- a step that is read starts at one of the 32 states
@@ -36,16 +36,16 @@ pub bounds-rows-from : goal.bounds-rows-from
 bounds-rows-from c =
     let loop = c.loop-j in
     let inside : loop.j < length (table_of c.args.table.now).steps = omega arith in
-    (read_step c.args.table.now c.requires loop.j inside _ loop.invariant.2 c.step_at-x.result c.step_at-x.ensures).from-below
+    (read_step c.args.table.now c.requires loop.j inside _ loop.invariant.2 c.step_at-x.result c.step_at-x.ensures).from_below
 
 pub offset_bounds-rows-from : goal.offset_bounds-rows-from
-offset_bounds-rows-from c = omega (arith, array-read-row c)
+offset_bounds-rows-from c = omega (arith, bounds-rows-from c)
 
 pub offset_bounds-rows-from-in-loop-j : goal.offset_bounds-rows-from-in-loop-j
-offset_bounds-rows-from-in-loop-j c = omega (arith, array-read-row c)
+offset_bounds-rows-from-in-loop-j c = omega (arith, bounds-rows-from c)
 
 pub bounds-rows-from-in-loop-j : goal.bounds-rows-from-in-loop-j
-bounds-rows-from-in-loop-j c = array-read-row c
+bounds-rows-from-in-loop-j c = bounds-rows-from c
 
 pub loop-j-smaller : goal.loop-j-smaller
 loop-j-smaller c = omega arith

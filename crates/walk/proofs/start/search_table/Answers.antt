@@ -1,5 +1,6 @@
 -- `search_table` meets its contract.
 use mathlib.Core.Path.{refl, ◌∙◌}
+use mathlib.Core.List.{[]}
 use native.Mathlib.Omega.{arith}
 use Rattle.table.specs.Table.{table_of}
 use Rattle.table.proofs.Accepted.{accepted}
@@ -39,7 +40,7 @@ returns c =
     let wf = (accepted c.args.table.now c.requires.setting.accepted).table in
     let r = c.walk_table-walked.result in
     let find = c.walk_table-walked.new.words.1.1.1.1.1.1.1.1.0 in
-    let settled = settled_only T wf [] (closure-is_right T wf).fine-none c.close_nothing-closed.result.settled c.close_nothing-closed.ensures.closes.settled in (
+    let settled = settled_only T wf [] (closure-is_right T wf).fine_none c.close_nothing-closed.result.settled c.close_nothing-closed.ensures.closes.settled in (
       c.finish.ensures.value ∙ start_answer T c.args.cap find r c.walk_table-walked.ensures c.close_nothing-closed.result.settled settled,
       (
         c.finish.ensures.list_after ∙ start_list T c.args.cap find r c.walk_table-walked.ensures c.args.list.now,

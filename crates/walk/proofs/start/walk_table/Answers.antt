@@ -1,5 +1,6 @@
 -- `walk_table` meets its contract.
 use Prim.Native.Nat.{zero-le}
+use mathlib.Core.List.{[]}
 use Rattle.table.specs.Table.{table_of}
 use Rattle.propagate.specs.Memory.{memory}
 use Rattle.search.specs.declared.best.Best.TheVariants.{Unfound}
@@ -14,7 +15,7 @@ use Rattle.walk.proofs.start.walk_table.Goals as goal
 comes : (c : goal.After-assess)
     → Comes (table_of c.args.table.now) Unfound (memory c.args.t7 c.args.words.now) c.assess.new.find.1.1.1.1.0 [] unfound c.assess.result
 comes c =
-    c.assess.ensures c.args.words.now [] unfound (closure-is_right (table_of c.args.table.now) (handed_table c.requires.handed)).fine-none c.requires.closes c.requires.resting tt
+    c.assess.ensures c.args.words.now [] unfound (closure-is_right (table_of c.args.table.now) (handed_table c.requires.handed)).fine_none c.requires.closes c.requires.resting tt
 
 pub assess-requires : goal.assess-requires
 assess-requires c = c in ((s.requires.0.setting.accepted, s.requires.0.rows_size), s.requires.0.room)
