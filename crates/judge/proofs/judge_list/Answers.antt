@@ -69,6 +69,7 @@ reached_left : (c : goal.After-minus)
     judge_verdict a.table.now a.list.now
     ≡ require UnreachedStep (eqb c.minus.result 0) then require RootFails (root_marked (table_of a.table.now) a.list.now)
 reached_left c =
+    let i = c.before.before.before.before in
     let a = c.args in
     let A = c.analyse-a in
     let ok = c.enum_told-in_default-1.given.1 in
@@ -86,7 +87,7 @@ root-left c =
     let ok = c.enum_told-in_default-1.given.1 in
     let all = eq-eqb c.minus.result 0 c.if-minus-ne0.false in
     let marks = root_marks _ _ A.result A.ensures ok c.intersection-starts.result c.intersection-starts.ensures c.minus-2.result c.minus-2.ensures in
-    reached_left c ∙ then_next _ _ (ap (require UnreachedStep) all) ∙ ap (require RootFails) (sym marks)
+    reached_left c.before.before ∙ then_next _ _ (ap (require UnreachedStep) all) ∙ ap (require RootFails) (sym marks)
 
 pub returns-in-Refused : goal.returns-in-Refused
 returns-in-Refused c =
@@ -98,7 +99,7 @@ returns-in-Refused c =
 
 pub returns-then-starts-eq0 : goal.returns-then-starts-eq0
 returns-then-starts-eq0 c =
-    let r = starts-left c in
+    let r = starts-left c.before in
     let none = sym r.1 ∙ ap not (eq-eqb c.intersection-starts.result 0 c.if-starts-eq0.true) in
     let refuses = ap (require NoInitialKept) none in
     sym (r.0 ∙ then_refused _ _ NoInitialKept refuses ∙ refuses)
@@ -106,12 +107,12 @@ returns-then-starts-eq0 c =
 pub returns-then-minus-ne0 : goal.returns-then-minus-ne0
 returns-then-minus-ne0 c =
     let refuses = ap (require UnreachedStep) (ne_eqb c.minus.result 0 c.if-minus-ne0.true) in
-    sym (reached_left c ∙ then_refused _ _ UnreachedStep refuses ∙ refuses)
+    sym (reached_left c.before ∙ then_refused _ _ UnreachedStep refuses ∙ refuses)
 
 pub returns-then-minus-ne0-2 : goal.returns-then-minus-ne0-2
-returns-then-minus-ne0-2 c = sym (root-left c ∙ ap (require RootFails) (ne_eqb c.minus-2.result 0 c.if-minus-ne0-2.true))
+returns-then-minus-ne0-2 c = sym (root-left c.before ∙ ap (require RootFails) (ne_eqb c.minus-2.result 0 c.if-minus-ne0-2.true))
 
 pub returns : goal.returns
-returns-in-Refused c =
+returns c =
     c.enum_told-in_default-1.given.1
-    ∙ sym (root-left c ∙ ap (require RootFails) (eq-eqb c.minus-2.result 0 c.if-minus-ne0-2.false))
+    ∙ sym (root-left c.before ∙ ap (require RootFails) (eq-eqb c.minus-2.result 0 c.if-minus-ne0-2.false))

@@ -16,7 +16,7 @@ use Rattle.repair.proofs.Order.{table_refused, short_list, short_bytes, short_wo
 use Rattle.repair.proofs.repair.Goals as goal
 
 abbrev start : goal.After-variable_count-v → goal.Start
-start k = k
+start k = k.before.before.before.before.before.before.before.before.before
 
 ok_at : (k : goal.After-variable_count-v) → table_verdict (start k).args.table.now ≡ Accepted
 ok_at k = sym k.check_table.ensures ∙ k.enum_told-1.given.1
@@ -33,28 +33,33 @@ returns-in-Refused c =
 
 pub returns-then-list-c : goal.returns-then-list-c
 returns-then-list-c c =
+    let k = c.before.before in
     let a = (start k).args in
     left a.table.now a.cap a.list.now a.bytes.now a.words.now (Refused ShortBuffer)
     (short_list a.table.now a.list.now a.bytes.now a.words.now (ok_at k) (omega (arith, steps-at k)))
 
 pub returns-then-bytes-v : goal.returns-then-bytes-v
 returns-then-bytes-v c =
+    let k = c.before.before.before in
     let a = (start k).args in
     left a.table.now a.cap a.list.now a.bytes.now a.words.now (Refused ShortBuffer)
     (short_bytes a.table.now a.list.now a.bytes.now a.words.now (ok_at k) (omega (arith, steps-at k)) (omega (arith, c.variable_count-v.ensures)))
 
 pub returns-then-words-v : goal.returns-then-words-v
 returns-then-words-v c =
+    let k = c.before.before.before.before in
     let a = (start k).args in
     left a.table.now a.cap a.list.now a.bytes.now a.words.now (Refused ShortBuffer)
     (short_words a.table.now a.list.now a.bytes.now a.words.now (ok_at k) (omega (arith, steps-at k)) (omega (arith, c.variable_count-v.ensures)) (omega (arith, c.variable_count-v.ensures)))
 
 pub run-answer-requires : goal.run-answer-requires
 run-answer-requires c =
+    let k = c.before.before.before.before.before.before in
     (ok_at k, (omega (arith, steps-at k), (omega (arith, c.variable_count-v.ensures), c.variable_count-v.ensures)))
 
 pub returns : goal.returns
-returns-in-Refused c =
+returns c =
+    let k = ran.before.before.before.before.before.before.before in
     let a = (start k).args in
     let t = a.table.now in
     let count = variable_formula (table_of t) in

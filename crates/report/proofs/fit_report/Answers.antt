@@ -17,7 +17,7 @@ use Rattle.report.proofs.Cases.{too_long, text_read, text_room, stored_front}
 use Rattle.report.proofs.fit_report.Goals as goal
 
 abbrev start : goal.After-read → goal.Start
-start k = k
+start k = k.before.before.before.before.before
 
 text-is : (k : goal.After-read) (r : Read) → k.read.result ≡ r → read_text r k.read.new.out.1.0 ≡ fit_text (start k).args.text.now
 text-is k r e =
@@ -26,7 +26,7 @@ text-is k r e =
 
 -- to a table, of n bytes
 abbrev read : goal.In-Length-2 → goal.After-read
-read k = k
+read k = k.before.before.before
 
 length-answered : (k : goal.In-Length-2) → read_answer (start (read k)).args.text.now (zeros 580) ≡ Length k.n-1.given.0.0
 length-answered k = sym (read k).read.ensures.0 ∙ k.n-1.given.1
@@ -51,29 +51,31 @@ returns-then-text-gt-MOST c =
     (stored_as _ _ _ _ _ _ (sym (too_long text c.if-text-gt-MOST.true)) c.write_refused.ensures)
 
 pub slice_bounds-table-end : goal.slice_bounds-table-end
-slice_bounds-table-end c = short c
+slice_bounds-table-end c = short c.before
 
 pub slice_bounds-report_table-end : goal.slice_bounds-report_table-end
-slice_bounds-report_table-end c = sym (length-take-le _ _ (short c))
+slice_bounds-report_table-end c = sym (length-take-le _ _ (short c.before.before))
 
 pub report_table-requires : goal.report_table-requires
 report_table-requires c =
+    let k = c.before.before.before in
     let s = start (read k) in
     (accepted k, room_as s.args.out.now 0 _ _ (text-is (read k) _ c.n-1.given.1) (text_room s.args.text.now s.args.out.now s.pre))
 
 pub write_refused-requires-in-Refused : goal.write_refused-requires-in-Refused
 write_refused-requires-in-Refused c =
-    let s = start c in
-    room_as s.args.out.now 0 _ _ (text-is c _ c.refusal-1.given.1) (text_room s.args.text.now s.args.out.now s.pre)
+    let s = start k.before.before.before in
+    room_as s.args.out.now 0 _ _ (text-is k.before.before.before _ c.refusal-1.given.1) (text_room s.args.text.now s.args.out.now s.pre)
 
 pub returns-in-Length : goal.returns-in-Length
 returns-in-Length c =
+    let k = c.before.before.before.before.before.before in
     let s = start (read k) in
     stored_front s.args.out.now (fit_text s.args.text.now) _ _ (text_room s.args.text.now s.args.out.now s.pre)
     (stored_as _ _ _ _ _ _ (text-is (read k) _ c.n-1.given.1) c.report_table.ensures)
 
 pub returns-in-Refused : goal.returns-in-Refused
 returns-in-Refused c =
-    let s = start c in
+    let s = start k.before.before.before in
     stored_front s.args.out.now (fit_text s.args.text.now) _ _ (text_room s.args.text.now s.args.out.now s.pre)
-    (stored_as _ _ _ _ _ _ (text-is c _ c.refusal-1.given.1) c.write_refused-in-Refused.ensures)
+    (stored_as _ _ _ _ _ _ (text-is k.before.before.before _ c.refusal-1.given.1) c.write_refused-in-Refused.ensures)

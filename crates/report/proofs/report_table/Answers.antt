@@ -8,7 +8,7 @@ use Rattle.report.specs.Report.{answer_text, table_text}
 use Rattle.report.proofs.report_table.Goals as goal
 
 abbrev start : goal.After-repair-answer → goal.Start
-start k = k
+start k = k.before.before.before.before.before.before
 
 -- Repair's answer and list are those of the definition
 same_text : (k : goal.After-repair-answer) → let table = (start k).args.table.now in answer_text table k.repair-answer.result k.repair-answer.new.words ≡ table_text table
@@ -17,6 +17,7 @@ same_text k = λ i. answer_text (start k).args.table.now (k.repair-answer.ensure
 
 pub write_result-requires : goal.write_result-requires
 write_result-requires c =
+    let k = c.before.before.before.before.before in
     let s = start k in
     let table = s.args.table.now in
     let few = (counts_within (counts_of table) (header_accepted table s.pre.0).0).few_steps in
@@ -24,4 +25,4 @@ write_result-requires c =
     (omega (arith, few, size), room_as s.args.out.now 0 _ _ (same_text k) s.pre.1)
 
 pub returns : goal.returns
-returns c = stored_as _ _ _ _ _ _ (same_text c) c.write_result.ensures
+returns c = stored_as _ _ _ _ _ _ (same_text c.before.before.before.before.before.before.before.before) c.write_result.ensures

@@ -12,6 +12,6 @@ returns-then-yes c =
     c.insert.ensures ∙ set_of_cong 32 _ _ (λ t h. ap (λ (b : Bool). member a.set t || (b && eqb t a.s)) (sym c.if-yes.true))
 
 pub returns : goal.returns
-returns-then-yes c =
+returns c =
     let a = c.args in
     sym (set_of_cong 32 _ _ (λ t h. ap (λ (b : Bool). member a.set t || (b && eqb t a.s)) c.if-yes.false ∙ or-false (member a.set t)) ∙ set_of-member 32 a.set c.ranges.set.fits)

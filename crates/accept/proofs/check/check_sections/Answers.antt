@@ -43,7 +43,7 @@ returns-in-Refused-second c =
     ∙ sym (then_next (states_verdict (table_of l).props (table_of l).states) _ (sym first ∙ c.enum_told-in_default-1.given.1))
 
 pub returns : goal.returns
-returns-in-Refused c =
+returns c =
     let a = c.args in
     let l = a.table.now in
     let first = c.check_states-first.ensures ∙ of_states l a.c c.requires.c_value c.states_part.result.now c.states_part.ensures in

@@ -45,7 +45,7 @@ check_sections-requires c =
 
 pub returns : goal.returns
 unfolding table_verdict
-returns-then-table-lt-HEADER_WIDTH c =
+returns c =
     let l = c.args.table.now in
     let k = c.counts_of-c.ensures in
     let fit : counts_fit (counts_of l) ≡ true = ap counts_fit (sym k) ∙ sym c.counts_fit.ensures ∙ not-false _ c.if-not-counts_fit.false in

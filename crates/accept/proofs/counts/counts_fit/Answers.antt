@@ -29,6 +29,6 @@ returns-then-c-gt32-2 c =
     simp (le-leb 1 a.states (omega arith), le-leb a.states 32 (omega arith), le-leb a.steps 128 (omega arith), le-leb 1 a.nodes (omega arith), lt-leb a.nodes 32 (omega arith))
 
 pub returns : goal.returns
-returns-then-c-lt1 c =
+returns c =
     let a = c.args.c in
     simp (le-leb 1 a.states (omega arith), le-leb a.states 32 (omega arith), le-leb a.steps 128 (omega arith), le-leb 1 a.nodes (omega arith), le-leb a.nodes 32 (omega arith))

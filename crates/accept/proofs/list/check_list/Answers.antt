@@ -45,7 +45,7 @@ loop-j-preserved c =
 
 pub returns : goal.returns
 unfolding list_verdict all
-returns-then-list-e c =
+returns c =
     let a = c.args in
     let l = a.list.now in
     let j = c.loop-j.j in

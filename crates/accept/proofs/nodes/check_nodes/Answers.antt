@@ -46,7 +46,7 @@ loop-i-preserved c =
 
 pub returns : goal.returns
 unfolding nodes_fit
-returns-then-not-fields_fit c =
+returns c =
     let a = c.args in
     let i = c.loop-i.i in
     ap (require NodeRecord) (sym (c.loop-i.invariant.1 ∙ ap (nodes_fit a.p i) (records_done node_of node_width a.f a.section.now i c.loop-i-test.false)))

@@ -10,6 +10,6 @@ returns-then-s-gt1 c =
     simp (lt-leb a.s.initial 1 (omega arith))
 
 pub returns : goal.returns
-returns-then-s-gt1 c =
+returns c =
     let a = c.args in
     simp (le-leb a.s.initial 1 (omega arith)) (shifted_out a.s.label a.p)

@@ -9,6 +9,6 @@ returns-then-n-x c =
     simp (le-ltb a.x.from a.n (omega arith))
 
 pub returns : goal.returns
-returns-then-n-x c =
+returns c =
     let a = c.args in
     simp (lt-ltb a.x.from a.n (omega arith))

@@ -73,6 +73,7 @@ fixpoint_step-requires c =
 pub returns-in-1 : goal.returns-in-1
 unfolding node_step
 returns-in-1 c =
+    let start = c.before.before.before.before.before.before.before.before.before.before.before.before in
     let a = c.args in
     λ bases e. added a.rows.now (node_place a.i) (c.constant_row.ensures ∙ ap (constant_row a.n) (c.below.ensures ∙ all-states a.n c.requires.n_bound.0)) c.add_node.ensures a.words.now
     ∙ sym (ap (step_of start bases) (of_kind a.x 1 c.in-1.keys1))
@@ -80,6 +81,7 @@ returns-in-1 c =
 pub returns-in-2 : goal.returns-in-2
 unfolding node_step
 returns-in-2 c =
+    let start = c.before.before.before.before.before.before.before.before.before.before.before.before.before in
     let a = c.args in
     λ bases e. added a.rows.now (node_place a.i) (c.constant_row-in-2.ensures ∙ ap (constant_row a.n) (c.labelled_states-set.ensures ∙ ap (λ (l : List ℕ). labelled_word l a.n a.x.a) c.states_part.ensures)) c.add_node-in-2.ensures a.words.now
     ∙ sym (ap (step_of start bases) (of_kind a.x 2 c.in-2.keys2))
@@ -87,12 +89,14 @@ returns-in-2 c =
 pub returns-in-3 : goal.returns-in-3
 unfolding node_step
 returns-in-3 c =
+    let start = c.before.before.before.before.before.before.before.before.before.before in
     λ bases e. c.same_step.ensures c.args.words.now
     ∙ sym (ap (step_of start bases) (of_kind c.args.x 3 c.in-3.keys3))
 
 pub returns-in-4 : goal.returns-in-4
 unfolding node_step
 returns-in-4 c =
+    let start = c.before.before.before.before.before.before.before.before.before.before in
     let kind = c.in-4.keys4 in
     λ bases e. c.pair_step.ensures c.args.words.now
     ∙ ap (paired start true) (c.second_child-b.ensures ∙ second_b c.args.x (omega (arith, kind)))
@@ -101,6 +105,7 @@ returns-in-4 c =
 pub returns-in-5 : goal.returns-in-5
 unfolding node_step
 returns-in-5 c =
+    let start = c.before.before.before.before.before.before.before.before.before.before in
     let kind = c.in-5.keys5 in
     λ bases e. c.pair_step-in-5.ensures c.args.words.now
     ∙ ap (paired start false) (c.second_child-b.ensures ∙ second_b c.args.x (omega (arith, kind)))
@@ -109,6 +114,7 @@ returns-in-5 c =
 pub returns-in-6 : goal.returns-in-6
 unfolding node_step
 returns-in-6 c =
+    let start = c.before.before.before.before.before.before.before.before.before.before.before.before in
     let r = c.in_default-1.rest in
     let a = c.args in
     λ bases e. c.next_step.ensures a.words.now
@@ -118,6 +124,7 @@ returns-in-6 c =
 pub returns-in-8 : goal.returns-in-8
 unfolding node_step
 returns-in-8 c =
+    let start = c.before.before.before.before.before.before.before.before.before.before.before.before.before.before.before.before.before in
     let x = c.args.x in
     let family = c.family_of-family in
     let second = c.second_child-b in
@@ -129,6 +136,7 @@ returns-in-8 c =
 pub returns-in_default : goal.returns-in_default
 unfolding node_step
 returns-in_default c =
+    let start = c.before.before.before.before.before.before.before.before.before.before.before.before in
     let a = c.args in
     let operator = ⊎_elim (λ t. of_kind a.x 0 (omega (arith, t.taken))) (λ w. past_kinds a.x w.2.left) c.in_default.branch in
     λ bases e. added a.rows.now (node_place a.i) (c.constant_row-in_default.ensures ∙ ap (constant_row a.n) (sym (no-states a.n))) c.add_node-in_default.ensures a.words.now

@@ -23,12 +23,13 @@ read c =
 
 -- the count with the step
 more : (c : goal.After-is_settled)
-    → let l = c.loop-j in
+    → let s = c.before.before.before.before.before.before.before.before in
+    let l = c.loop-j in
     l.count + bool_byte c.is_settled.result ≡ count_of (l.j + 1) (is_settled c.args.table.now c.args.rows.now)
 more c =
     let l = c.loop-j in
     let settled : c.is_settled.result ≡ is_settled c.args.table.now c.args.rows.now l.j =
-    c.is_settled.ensures ∙ ap (step_settled c.args.rows.now) (read c).here in
+    c.is_settled.ensures ∙ ap (step_settled c.args.rows.now) (read c.before).here in
     (λ i. l.invariant.2 i + (flag_byte c.is_settled.result ∙ ap (λ (b : Bool). cond b 1 0) settled) i) ∙ sym (count_of_next l.j (is_settled c.args.table.now c.args.rows.now))
 
 -- there are few steps

@@ -22,7 +22,7 @@ turn c =
 
 -- what was looked at with this node
 now-looked : (c : goal.After-both-report)
-    → let l = c.loop-k in let v = c.node_visit-r in
+    → let s = c.before.before.before.before.before.before.before.before.before.before.before.before.before.before.before.before.before.before.before.before.before in let l = c.loop-k in let v = c.node_visit-r in
     Looked (table_of c.args.table.now) (Among c.args.down c.args.net.nodes (l.k + 1)) Always c.args.looks.now v.new.looks.1.1.1.1.1.0
     (memory c.args.rows.now c.args.words.now) (memory v.new.looks.1.1.1.0 v.new.looks.1.1.1.1.0) c.both-report.result
 now-looked c =
@@ -30,10 +30,10 @@ now-looked c =
     let v = c.node_visit-r in
     subst (λ (r : Report). Looked (table_of c.args.table.now) (Among c.args.down c.args.net.nodes (l.k + 1)) Always c.args.looks.now v.new.looks.1.1.1.1.1.0
     (memory c.args.rows.now c.args.words.now) (memory v.new.looks.1.1.1.0 v.new.looks.1.1.1.1.0) r) (sym c.both-report.ensures)
-    (among_next c.args.down c.args.net.nodes l.k c.if-down.i (turn c) l.invariant.3 v.ensures)
+    (among_next c.args.down c.args.net.nodes l.k c.if-down.i (turn c.before.before.before.before.before.before.before.before) l.invariant.3 v.ensures)
 
 pub loop-k-init : goal.loop-k-init
-loop-k-init c = c in (zero-le, refl, refl, among_none (table_of s.args.table.now) s.args.down s.args.net.nodes _ _ s.requires.1.0)
+loop-k-init c = c.before.before.before.before.before.before.before in (zero-le, refl, refl, among_none (table_of s.args.table.now) s.args.down s.args.net.nodes _ _ s.requires.1.0)
 
 pub overflow_sub-i : goal.overflow_sub-i
 overflow_sub-i c = omega arith
@@ -55,7 +55,7 @@ node_visit-r-requires c =
     )
 
 pub returns-then-report : goal.returns-then-report
-returns-then-report c = looked_failed c.if-report.true (now-looked c)
+returns-then-report c = looked_failed c.if-report.true (now-looked c.before)
 
 pub overflow_add-k : goal.overflow_add-k
 overflow_add-k c = omega (arith, c.loop-k-test.true, few_nodes c.requires.setting)
@@ -68,11 +68,11 @@ loop-k-preserved c = (
   omega (arith, c.loop-k-test.true),
   c.node_visit-r.auto.1.1.1.1.1.0 ∙ c.loop-k.invariant.1,
   c.node_visit-r.auto.1.1.1.1.1.1.0 ∙ c.loop-k.invariant.2,
-  now-looked c,
+  now-looked c.before,
 )
 
 pub returns : goal.returns
-returns-then-report c =
+returns c =
     let a = c.args in
     let l = c.loop-k in
     among_all a.down a.net.nodes l.k (omega arith) l.invariant.3

@@ -34,10 +34,10 @@ rests : (c : goal.After-settled_steps)
     → let v = c.sweep_once-r in let T = table_of c.args.table.now in
     RestBut T 0 (knowledge T (memory v.new.looks.1.1.1.0 v.new.looks.1.1.1.1.0))
 rests c =
-    let w = went c in
+    let w = went c.before.before.before.before.before.before.before.before.before.before in
     let f = c.if-r.false in
     let calm = not-true _ c.if-not-r.true in
-    swept_rest (table_of c.args.table.now) (wellformed c.requires.setting) c.sweep_once-r.new.looks.1.1.1.1.1.0 (memory c.sweep_once-r.new.looks.1.1.1.0 c.sweep_once-r.new.looks.1.1.1.1.0) (w.done calm f) (w.watched f (founded c) c.loop-net.invariant.2)
+    swept_rest (table_of c.args.table.now) (wellformed c.requires.setting) c.sweep_once-r.new.looks.1.1.1.1.1.0 (memory c.sweep_once-r.new.looks.1.1.1.0 c.sweep_once-r.new.looks.1.1.1.1.0) (w.done calm f) (w.watched f (founded c.before.before.before.before.before.before.before.before.before.before) c.loop-net.invariant.2)
 
 pub first_looks-looks-requires : goal.first_looks-looks-requires
 first_looks-looks-requires c = c.requires.setting.reads.size
@@ -57,17 +57,17 @@ sweep_once-r-requires c = c.loop-net in (c.requires.setting, (l.invariant.0.size
 
 pub returns-then-r : goal.returns-then-r
 returns-then-r c = (
-  closed_failing (table_of c.args.table.now) c.loop-net.invariant.0 (went c).advance c.if-r.true,
+  closed_failing (table_of c.args.table.now) c.loop-net.invariant.0 (went c.before.before.before.before.before.before).advance c.if-r.true,
   λ e. absurd (true≢false e),
 )
 
 pub settled_steps-requires : goal.settled_steps-requires
-settled_steps-requires c = (c.requires.setting.accepted, (went c).advance.sized.rows_size)
+settled_steps-requires c = (c.requires.setting.accepted, (went c.before.before.before.before.before.before.before.before.before).advance.sized.rows_size)
 
 pub returns-then-not-r : goal.returns-then-not-r
 returns-then-not-r c =
     let T = table_of c.args.table.now in
-    let w = went c in
+    let w = went c.before.before.before.before.before.before.before.before.before.before in
     let f = c.if-r.false in
     let calm = not-true _ c.if-not-r.true in
     let same = w.advance.unchanged calm in (
@@ -82,7 +82,7 @@ loop-net-smaller c =
     let a = c.args in
     let l = c.loop-net in
     let v = c.sweep_once-r in
-    let did = (went c).advance in
+    let did = (went c.before.before.before.before.before.before.before.before).advance in
     let less : total (memory l.rows l.words) < total (memory v.new.looks.1.1.1.0 v.new.looks.1.1.1.1.0) = did.more (not-false _ c.if-not-r.false) in
     let most = total_bound {T = table_of a.table.now} (memory v.new.looks.1.1.1.0 v.new.looks.1.1.1.1.0) did.sized in
     let size : length v.new.looks.1.1.1.0 + length v.new.looks.1.1.1.1.0 ≡ length a.rows.now + length a.words.now =
@@ -92,9 +92,9 @@ loop-net-smaller c =
 
 pub loop-net-preserved : goal.loop-net-preserved
 loop-net-preserved c =
-    let w = went c in
+    let w = went c.before.before.before.before.before.before.before.before in
     let l = c.loop-net in (
       reached_more (table_of c.args.table.now) l.invariant.0 w.advance,
       w.size ∙ l.invariant.1,
-      w.watched c.if-r.false (founded c) l.invariant.2,
+      w.watched c.if-r.false (founded c.before.before.before.before.before.before.before.before) l.invariant.2,
     )

@@ -19,6 +19,6 @@ pub mark_steps-requires : goal.mark_steps-requires
 mark_steps-requires c = (c.requires, refl)
 
 pub returns : goal.returns
-returns-then-fresh c =
+returns c =
     let m = c.mark_steps in
     (m.auto.1.0, (λ e. absurd (true≢false (sym e ∙ c.if-fresh.false)), λ e. m.ensures.steps_marked))

@@ -26,7 +26,7 @@ further c =
     let next = c.lowest-s in
     let s = next.result in
     let step = c.kept_step in
-    let h = low c in (
+    let h = low c.before.before.before.before.before in (
       step.auto.1.0 ∙ l.invariant.1,
       kept_next (table_of a.table.now) a.look (wellformed p.setting) a.targets.now l.left s h (p.setting.targets_at s h)
           (p.rows_len.1 s (next_inside a.look l.left s l.invariant.0 c.loop-left-test.true next.ensures))
@@ -37,10 +37,10 @@ pub loop-left-init : goal.loop-left-init
 loop-left-init c = (left_first _ c.ranges.look.fits, refl, kept_first _ _ _)
 
 pub kept_step-requires : goal.kept_step-requires
-kept_step-requires c = c.requires in (low c, (p.0.targets_size, c.loop-left.invariant.1 ∙ p.1.0))
+kept_step-requires c = c.requires in (low c.before, (p.0.targets_size, c.loop-left.invariant.1 ∙ p.1.0))
 
 pub returns-then-report : goal.returns-then-report
-returns-then-report c = λ w sized. kept_failed _ _ _ _ _ _ c.if-report.true ((further c).1 w sized)
+returns-then-report c = λ w sized. kept_failed _ _ _ _ _ _ c.if-report.true ((further c.before).1 w sized)
 
 pub loop-left-smaller : goal.loop-left-smaller
 loop-left-smaller c =
@@ -53,14 +53,14 @@ loop-left-preserved c =
     let a = c.args in
     let l = c.loop-left in
     let next = c.lowest-s in
-    let gone = further c in (
+    let gone = further c.before.before in (
       subst (Left a.look) (sym c.remove-left.ensures) (left_next a.look l.left next.result l.invariant.0 c.loop-left-test.true next.ensures),
       gone.0,
       subst (λ (x : ℕ). KeptOn (table_of a.table.now) a.look x a.rows.now c.kept_step.new.rows.1.0 c.both-report.result) (sym c.remove-left.ensures) gone.1,
     )
 
 pub returns : goal.returns
-returns-then-report c =
+returns c =
     let a = c.args in
     let l = c.loop-left in
     λ w sized. kept_last (table_of a.table.now) a.look l.left c.ranges.look.fits c.loop-left-test.false _ _ _ (l.invariant.2 w sized)

@@ -44,7 +44,7 @@ pub mark_steps-requires : goal.mark_steps-requires
 mark_steps-requires c = c.requires in (p.0.reads.size, c.mark_kept.ensures.raised.same_length ∙ p.1.1)
 
 pub returns : goal.returns
-returns-then-is_quiet c =
+returns c =
     let a = c.args in
     let p = c.requires in
     let T = table_of a.table.now in

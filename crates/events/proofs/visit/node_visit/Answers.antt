@@ -30,7 +30,7 @@ read c =
 
 second-low : (c : goal.After-second_child-b) → c.second_child-b.result < 32
 second-low c =
-    let r = read c in
+    let r = read c.before in
     omega (arith, c.second_child-b.ensures, second_below c.node_at-x.result 32 r.a_below r.b_below)
 
 -- what the step did
@@ -44,7 +44,7 @@ did c = c.node_step-report.ensures c.args.bases.now refl
 -- the rows keep their size
 rows_size : (c : goal.After-node_step-report) → length c.node_step-report.new.words.1.0 ≡ 130
 rows_size c =
-    (visit_sized c.requires.setting _ _ _ _ c.args.looks.now c.requires.sized c.requires.looks_len.0 c.args.i c.requires.looks_len.1 c.args.down c.node_at-x.result (read c)
+    (visit_sized c.requires.setting _ _ _ _ c.args.looks.now c.requires.sized c.requires.looks_len.0 c.args.i c.requires.looks_len.1 c.args.down c.node_at-x.result (read c.before.before.before.before.before.before.before.before.before.before.before)
     c.below-all.result c.below-all.ensures c.node_step-report.result (did c)).rows_size
 
 -- the words keep their count
@@ -57,32 +57,33 @@ since : (readers looks : List ℕ) (rows rows' : List ℕ) (k : ℕ) (old : Row)
 since readers looks rows rows' k old e = subst (λ (x : Row). NodeMarked readers looks k (grown x (row_at rows' (node_place k)))) e
 
 pub offset_bounds-looks-i : goal.offset_bounds-looks-i
-offset_bounds-looks-i c = omega (arith, low c)
+offset_bounds-looks-i c = omega (arith, low c.before.before.before.before.before.before.before)
 
 pub bounds-looks-i : goal.bounds-looks-i
-bounds-looks-i c = omega (arith, low c, c.requires.looks_len.0)
+bounds-looks-i c = omega (arith, low c.before.before.before.before.before.before.before.before, c.requires.looks_len.0)
 
 pub returns-then-word-eq0 : goal.returns-then-word-eq0
-returns-then-word-eq0 c = c in visit_none (table_of s.args.table.now) (memory s.args.rows.now s.args.words.now) s.requires.1.0 s.args.looks.now s.args.i c.if-word-eq0.true
+returns-then-word-eq0 c = c.before.before.before.before.before.before.before.before.before in visit_none (table_of s.args.table.now) (memory s.args.rows.now s.args.words.now) s.requires.1.0 s.args.looks.now s.args.i c.if-word-eq0.true
 
 pub node_row-old-requires : goal.node_row-old-requires
-node_row-old-requires c = (low c, c.requires.sized.rows_size)
+node_row-old-requires c = (low c.before.before.before.before.before.before.before.before.before.before.before.before.before.before, c.requires.sized.rows_size)
 
 pub node_row-old_a-requires : goal.node_row-old_a-requires
-node_row-old_a-requires c = ((read c).a_below, c.requires.sized.rows_size)
+node_row-old_a-requires c = ((read c.before.before.before.before).a_below, c.requires.sized.rows_size)
 
 pub node_row-old_b-requires : goal.node_row-old_b-requires
-node_row-old_b-requires c = (second-low c, c.requires.sized.rows_size)
+node_row-old_b-requires c = (second-low c.before.before.before.before.before, c.requires.sized.rows_size)
 
 pub offset_bounds-bases-i : goal.offset_bounds-bases-i
-offset_bounds-bases-i c = omega (arith, low c)
+offset_bounds-bases-i c = omega (arith, low c.before.before.before.before.before.before.before.before.before.before.before.before.before.before.before.before.before.before.before)
 
 pub bounds-bases-i : goal.bounds-bases-i
-bounds-bases-i c = omega (arith, low c, c.requires.setting.bases_size)
+bounds-bases-i c = omega (arith, low c.before.before.before.before.before.before.before.before.before.before.before.before.before.before.before.before.before.before.before.before, c.requires.setting.bases_size)
 
 pub node_step-report-requires : goal.node_step-report-requires
 node_step-report-requires c =
-    let r = read c in
+    let s = c.before.before.before.before.before.before.before.before.before.before.before.before.before.before.before.before.before.before.before.before.before.before in
+    let r = read c.before.before.before.before.before.before.before.before.before.before in
     let g = c.requires.setting in (
       (low s, (r.a_below, (r.b_below, c.requires.sized.rows_size))),
       (
@@ -92,42 +93,45 @@ node_step-report-requires c =
     )
 
 pub offset_bounds-looks-i-then-is_quiet : goal.offset_bounds-looks-i-then-is_quiet
-offset_bounds-looks-i-then-is_quiet c = omega (arith, low c)
+offset_bounds-looks-i-then-is_quiet c = omega (arith, low c.before.before.before.before.before.before.before.before.before.before.before.before.before.before.before.before.before.before.before.before.before.before.before.before.before.before.before.before.before)
 
 pub bounds-looks-i-then-is_quiet : goal.bounds-looks-i-then-is_quiet
-bounds-looks-i-then-is_quiet c = omega (arith, low c, c.requires.looks_len.0)
+bounds-looks-i-then-is_quiet c = omega (arith, low c.before.before.before.before.before.before.before.before.before.before.before.before.before.before.before.before.before.before.before.before.before.before.before.before.before.before.before.before.before, c.requires.looks_len.0)
 
 pub returns-then-is_quiet : goal.returns-then-is_quiet
 returns-then-is_quiet c =
-    visit_calm c.requires.setting _ _ _ _ c.args.looks.now c.requires.sized c.requires.looks_len.0 c.args.i c.requires.looks_len.1 c.args.down c.node_at-x.result (read c)
+    let at = c.before.before.before.before.before.before in
+    visit_calm c.requires.setting _ _ _ _ c.args.looks.now c.requires.sized c.requires.looks_len.0 c.args.i c.requires.looks_len.1 c.args.down c.node_at-x.result (read at.before.before.before.before.before.before.before.before.before.before.before)
     c.below-all.result c.below-all.ensures c.node_step-report.result (did at) (sym c.is_quiet.ensures ∙ c.if-is_quiet.true)
 
 pub put-requires : goal.put-requires
-put-requires c = omega (arith, low c, c.requires.looks_len.0)
+put-requires c = omega (arith, low c.before.before.before.before.before.before.before.before.before.before.before.before.before.before.before.before.before.before.before.before.before.before.before.before.before.before.before.before.before.before, c.requires.looks_len.0)
 
 pub note_node-requires : goal.note_node-requires
 note_node-requires c =
-    (low s, (c.requires.setting.reads.size, (rows_size c, c.put.ensures.raised.same_length ∙ c.requires.looks_len.0)))
+    let s = c.before.before.before.before.before.before.before.before.before.before.before.before.before.before.before.before.before.before.before.before.before.before.before.before.before.before.before.before.before.before.before.before.before.before.before in
+    (low s, (c.requires.setting.reads.size, (rows_size c.before.before.before.before.before.before.before.before.before.before.before.before, c.put.ensures.raised.same_length ∙ c.requires.looks_len.0)))
 
 pub note_node-requires-2 : goal.note_node-requires-2
 note_node-requires-2 c =
-    ((read c).a_below, (c.requires.setting.reads.size, (rows_size c, c.note_node.ensures.raised.same_length ∙ c.put.ensures.raised.same_length ∙ c.requires.looks_len.0)))
+    ((read c.before.before.before.before.before.before.before.before.before.before.before.before.before.before.before.before.before.before.before.before.before.before.before.before.before.before.before.before).a_below, (c.requires.setting.reads.size, (rows_size c.before.before.before.before.before.before.before.before.before.before.before.before.before.before.before.before.before, c.note_node.ensures.raised.same_length ∙ c.put.ensures.raised.same_length ∙ c.requires.looks_len.0)))
 
 pub note_node-requires-3 : goal.note_node-requires-3
 note_node-requires-3 c =
     (
-      second-low c,
+      second-low c.before.before.before.before.before.before.before.before.before.before.before.before.before.before.before.before.before.before.before.before.before.before.before.before.before.before.before.before.before.before.before.before,
       (
         c.requires.setting.reads.size,
-        (rows_size c, c.note_node-2.ensures.raised.same_length ∙ c.note_node.ensures.raised.same_length ∙ c.put.ensures.raised.same_length ∙ c.requires.looks_len.0),
+        (rows_size c.before.before.before.before.before.before.before.before.before.before.before.before.before.before.before.before.before.before.before.before.before.before, c.note_node-2.ensures.raised.same_length ∙ c.note_node.ensures.raised.same_length ∙ c.put.ensures.raised.same_length ∙ c.requires.looks_len.0),
       ),
     )
 
 pub mark_steps-requires : goal.mark_steps-requires
-mark_steps-requires c = (c.requires.setting.reads.size, count c ∙ c.requires.looks_len.0)
+mark_steps-requires c = (c.requires.setting.reads.size, count c.before.before.before ∙ c.requires.looks_len.0)
 
 pub returns : goal.returns
-returns-then-word-eq0 c =
+returns c =
+    let at = c.before.before.before.before.before.before.before.before.before.before.before.before.before.before.before.before.before.before.before.before.before.before.before.before.before.before.before.before.before in
     let put = c.put in
     let own = c.note_node in
     let first = c.note_node-2 in
@@ -137,7 +141,7 @@ returns-then-word-eq0 c =
     let b = c.second_child-b.result in
     let rows = c.args.rows.now in
     let rows' = c.node_step-report.new.words.1.0 in
-    visit_loud c.requires.setting _ _ _ _ c.args.looks.now c.requires.sized c.requires.looks_len.0 c.args.i c.requires.looks_len.1 c.args.down c.node_at-x.result (read c)
+    visit_loud c.requires.setting _ _ _ _ c.args.looks.now c.requires.sized c.requires.looks_len.0 c.args.i c.requires.looks_len.1 c.args.down c.node_at-x.result (read at.before.before.before.before.before.before.before.before.before.before.before)
     c.below-all.result c.below-all.ensures c.node_step-report.result (did at) (sym c.is_quiet.ensures ∙ c.if-is_quiet.false)
     c.second_child-b.result c.second_child-b.ensures put.new.words own.new.looks.1.1.0 first.new.looks.1.1.0 other.new.looks.1.1.0 marks.new.looks.1.0
     put.ensures.raised put.ensures.by_index

@@ -36,7 +36,7 @@ note_node-requires c =
     (omega (arith, some_node p.setting, few_nodes p.setting), (p.setting.reads.size, (c.start_step-report.auto.0 ∙ p.rows_len.0, c.mark_kept.ensures.raised.same_length ∙ p.rows_len.1)))
 
 pub returns : goal.returns
-returns-then-is_quiet c =
+returns c =
     let a = c.args in
     let p = c.requires in
     let T = table_of a.table.now in

@@ -38,7 +38,8 @@ table-passed c = sym c.check_table-first.ensures ∙ c.enum_told-1.given.1
 
 -- and the list is of the form
 list-passed : (c : goal.In_default-second)
-    → list_verdict (length (table_of c.args.table.now).steps) c.args.list.now ≡ Accepted
+    → let s = c.before.before.before.before.before.before.before.before.before in
+    list_verdict (length (table_of c.args.table.now).steps) c.args.list.now ≡ Accepted
 list-passed c =
     let k = c.counts_of-c in
     let v = c.check_list-second in
@@ -62,7 +63,7 @@ returns-in-Refused-second c =
     let v = c.check_list-second in
     let r = c.second-1.given.0.0 in
     refused_analysis (analysis_verdict a.room t l) r (table_of t) l c.refused-in-Refused-second.result
-    (list_refused a.room t l (table-passed c) r
+    (list_refused a.room t l (table-passed c.before.before.before.before.before.before) r
     (sym (list_is t k.result k.ensures l v.result v.ensures) ∙ c.second-1.given.1)) c.refused-in-Refused-second.ensures
 
 pub returns-then-not-room_fits : goal.returns-then-not-room_fits
@@ -73,7 +74,7 @@ returns-then-not-room_fits c =
     let k = c.counts_of-c in
     let short = sym (room_is t k.result k.ensures a.room c.room_fits.result c.room_fits.ensures) ∙ not-true _ c.if-not-room_fits.true in
     refused_analysis (analysis_verdict a.room t l) ShortBuffer (table_of t) l c.refused-then-not-room_fits.result
-    (room_refused a.room t l (table-passed c) (list-passed c) short) c.refused-then-not-room_fits.ensures
+    (room_refused a.room t l (table-passed c.before.before.before.before.before.before.before) (list-passed c.before.before.before) short) c.refused-then-not-room_fits.ensures
 
 pub analysed-requires : goal.analysed-requires
 analysed-requires c =
@@ -81,14 +82,14 @@ analysed-requires c =
     let t = a.table.now in
     let l = a.list.now in
     let k = c.counts_of-c in
-    (table-passed c, (list_length (length (table_of t).steps) l (list-passed c), (states_are t k.result k.ensures, nodes_are t k.result k.ensures)))
+    (table-passed c.before.before.before.before.before.before, (list_length (length (table_of t).steps) l (list-passed c.before.before), (states_are t k.result k.ensures, nodes_are t k.result k.ensures)))
 
 pub returns : goal.returns
-returns-in-Refused c =
+returns c =
     let a = c.args in
     let t = a.table.now in
     let l = a.list.now in
     let k = c.counts_of-c in
     let fits = sym (room_is t k.result k.ensures a.room c.room_fits.result c.room_fits.ensures) ∙ not-false _ c.if-not-room_fits.false in
     c.analysed.ensures
-    ∙ sym (ap (λ (v : Verdict). analysis_at v (table_of t) l) (room_passed a.room t l (table-passed c) (list-passed c) fits))
+    ∙ sym (ap (λ (v : Verdict). analysis_at v (table_of t) l) (room_passed a.room t l (table-passed c.before.before.before.before.before.before.before) (list-passed c.before.before.before) fits))

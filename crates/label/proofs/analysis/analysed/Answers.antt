@@ -89,7 +89,7 @@ root_set-requires c =
     few_nodes a.table.now a.list.now c.requires.table_value a.n c.requires.n_value.0 c.kept_rows-rows.result c.kept_rows-rows.ensures a.f c.requires.n_value.1
 
 pub returns : goal.returns
-returns-then-not-is_total c =
+returns c =
     let a = c.args in
     let t = a.table.now in
     let l = a.list.now in

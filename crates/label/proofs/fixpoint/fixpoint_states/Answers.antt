@@ -40,6 +40,6 @@ loop-m-preserved c =
     )
 
 pub returns : goal.returns
-returns-then-next-level c =
+returns c =
     let a = c.args in
     c.loop-m.invariant.1 ∙ ap (levels_word a.family (quantifier_of a.q) a.rows.now a.n a.a a.b) (omega arith)

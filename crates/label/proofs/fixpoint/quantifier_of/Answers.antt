@@ -6,4 +6,4 @@ pub returns-then-kind-eq0 : goal.returns-then-kind-eq0
 returns-then-kind-eq0 c = simp (eq-eqb _ 0 c.if-kind-eq0.true)
 
 pub returns : goal.returns
-returns-then-kind-eq0 c = simp (ne_eqb _ 0 c.if-kind-eq0.false)
+returns c = simp (ne_eqb _ 0 c.if-kind-eq0.false)

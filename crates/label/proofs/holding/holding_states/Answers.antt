@@ -45,7 +45,7 @@ module _ (table list : List ℕ) (room : ℕ) (a : Analysis) (e : a ≡ analysis
       omega (arith, few, leb-true (length (table_of table).states) room (room_accepted (States room) table list (passed (States room) table list a e ok)))
 
 pub returns : goal.returns
-returns-in-Refused c =
+returns c =
     let a = c.args in
     let t = a.table.now in
     let l = a.list.now in

@@ -54,7 +54,7 @@ write_words-requires c =
     )
 
 pub returns : goal.returns
-returns-in-Refused c =
+returns c =
     let a = c.args in
     let t = a.table.now in
     let l = a.list.now in

@@ -27,20 +27,22 @@ bounds-words-right c =
 
 pub returns-in-1 : goal.returns-in-1
 unfolding node_word
-returns-in-1 c = c in sym (ap (word_of start) (of_kind start.args.x 1 c.in-1.keys1))
+returns-in-1 c = c.before.before.before.before.before in sym (ap (word_of start) (of_kind start.args.x 1 c.in-1.keys1))
 
 pub returns-in-2 : goal.returns-in-2
 unfolding node_word
 returns-in-2 c =
+    let start = c.before.before.before.before.before.before in
     ap (bit_and c.args.kept) c.labelled_states.ensures ∙ sym (ap (word_of start) (of_kind c.args.x 2 c.in-2.keys2))
 
 pub returns-in-3 : goal.returns-in-3
 unfolding node_word
-returns-in-3 c = c in sym (ap (word_of start) (of_kind start.args.x 3 c.in-3.keys3))
+returns-in-3 c = c.before.before.before.before.before in sym (ap (word_of start) (of_kind start.args.x 3 c.in-3.keys3))
 
 pub returns-in-4 : goal.returns-in-4
 unfolding node_word
 returns-in-4 c =
+    let start = c.before.before.before.before.before in
     let x = c.args.x in
     ap (λ (i : ℕ). bit_and (word_at start x.a) (word_at start i)) (c.second_child-right.ensures ∙ second_b x (omega (arith, c.in-4.keys4)))
     ∙ sym (ap (word_of start) (of_kind x 4 c.in-4.keys4))
@@ -48,6 +50,7 @@ returns-in-4 c =
 pub returns-in-5 : goal.returns-in-5
 unfolding node_word
 returns-in-5 c =
+    let start = c.before.before.before.before.before in
     let x = c.args.x in
     ap (λ (i : ℕ). bit_or (word_at start x.a) (word_at start i)) (c.second_child-right.ensures ∙ second_b x (omega (arith, c.in-5.keys5)))
     ∙ sym (ap (word_of start) (of_kind x 5 c.in-5.keys5))
@@ -55,6 +58,7 @@ returns-in-5 c =
 pub returns-in-6 : goal.returns-in-6
 unfolding node_word
 returns-in-6 c =
+    let start = c.before.before.before.before.before.before.before.before.before in
     let r = c.in_default-1.rest in
     c.next_states.ensures
     ∙ ap (λ (q : Quantifier). next_word q c.args.rows.now c.args.n (word_at start c.args.x.a)) c.quantifier_of.ensures
@@ -63,6 +67,7 @@ returns-in-6 c =
 pub returns-in-8 : goal.returns-in-8
 unfolding node_word
 returns-in-8 c =
+    let start = c.before.before.before.before.before.before.before.before.before.before.before in
     let a = c.args in
     let second = c.second_child-right in
     let family = c.family_of in
@@ -73,8 +78,8 @@ returns-in-8 c =
 
 pub returns-in_default : goal.returns-in_default
 unfolding node_word
-returns-in_default c = c in sym (ap (word_of start) (of_kind start.args.x 0 (omega arith)))
+returns-in_default c = c.before.before.before.before.before.before in sym (ap (word_of start) (of_kind start.args.x 0 (omega arith)))
 
 pub returns-in_default-2 : goal.returns-in_default-2
 unfolding node_word
-returns-in_default-2 c = c in sym (ap (word_of start) (past_kinds start.args.x (omega arith)))
+returns-in_default-2 c = c.before.before.before.before.before.before.before.before in sym (ap (word_of start) (past_kinds start.args.x (omega arith)))

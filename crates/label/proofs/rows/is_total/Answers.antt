@@ -56,7 +56,7 @@ loop-s-preserved c =
 
 pub returns : goal.returns
 unfolding passes all
-returns-then-minus-ne0 c =
+returns c =
     let rows = c.args.t1 in
     let kept = c.args.kept in
     let s = c.loop-s.s in

@@ -52,7 +52,7 @@ add_node-requires c =
     omega (arith, p.i_bound.1.0, p.i_bound.1.1, c.go_back-k.auto.1.0, c.add_node-first.auto.0)
 
 pub returns : goal.returns
-returns-then-is_none c =
+returns c =
     let a = c.args in
     let x = c.node_row in
     let t = c.turn-end in

@@ -6,4 +6,4 @@ pub returns-then-a-b : goal.returns-then-a-b
 returns-then-a-b c = c.args in λ w. simp (eq-eqb a.a a.b c.if-a-b.true) (c.same_step.ensures w)
 
 pub returns : goal.returns
-returns-then-a-b c = c.args in λ w. simp (ne_eqb a.a a.b c.if-a-b.false) (c.both_step.ensures w)
+returns c = c.args in λ w. simp (ne_eqb a.a a.b c.if-a-b.false) (c.both_step.ensures w)

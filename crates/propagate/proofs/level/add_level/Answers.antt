@@ -15,7 +15,7 @@ returns-then-m-n c =
     (λ i. record { memory = memory (d.ensures.rows_after i) c.args.words.now; report = d.ensures.value i })
 
 pub returns : goal.returns
-returns-then-m-eq0 c =
+returns c =
     let d = c.add in
     simp (ne_eqb _ _ c.if-m-eq0.false, ne_eqb _ _ c.if-m-n.false)
     (λ i. record { memory = memory c.args.rows.now (d.ensures.words_after i); report = d.ensures.value i })

@@ -19,7 +19,7 @@ add_level-requires c =
     (fits_on _ _ k.new.rows.1.0 _ p.fits k.auto.1.0 refl, omega (arith, p.m_lt_n.0))
 
 pub returns : goal.returns
-returns-then-is_none c =
+returns c =
     let a = c.args in
     let t = c.turn in
     let u = c.turn-2 in

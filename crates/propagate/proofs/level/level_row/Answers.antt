@@ -9,4 +9,4 @@ pub returns-then-m-n : goal.returns-then-m-n
 returns-then-m-n c = simp (ne_eqb _ _ c.if-m-eq0.false, eq-eqb _ _ c.if-m-n.true) c.node_row-then-m-n.ensures
 
 pub returns : goal.returns
-returns-then-m-eq0 c = simp (ne_eqb _ _ c.if-m-eq0.false, ne_eqb _ _ c.if-m-n.false) c.row_at.ensures
+returns c = simp (ne_eqb _ _ c.if-m-eq0.false, ne_eqb _ _ c.if-m-n.false) c.row_at.ensures

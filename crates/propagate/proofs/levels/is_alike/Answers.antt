@@ -22,4 +22,4 @@ pub returns-then-not-is_same : goal.returns-then-not-is_same
 returns-then-not-is_same c = c.args in second a.seen.quiet (same_row a.seen.level a.level) (same_row a.seen.below a.below) (not-false _ c.if-not-seen.false) (sym c.is_same.ensures ∙ not-true _ c.if-not-is_same.true)
 
 pub returns : goal.returns
-returns-then-not-seen c = c.args in c.is_same-2.ensures ∙ third a.seen.quiet (same_row a.seen.level a.level) (same_row a.seen.below a.below) (not-false _ c.if-not-seen.false) (sym c.is_same.ensures ∙ not-false _ c.if-not-is_same.false)
+returns c = c.args in c.is_same-2.ensures ∙ third a.seen.quiet (same_row a.seen.level a.level) (same_row a.seen.below a.below) (not-false _ c.if-not-seen.false) (sym c.is_same.ensures ∙ not-false _ c.if-not-is_same.false)

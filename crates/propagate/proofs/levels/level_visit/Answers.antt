@@ -23,7 +23,7 @@ returns-then-is_alike c =
     (sym (ap (λ (v : Visit Seen). v.done) e), sym (ap (λ (v : Visit Seen). v.left) e))
 
 pub returns : goal.returns
-returns-then-is_alike c =
+returns c =
     let a = c.args in
     let M = memory a.rows.now a.words.now in
     let l = c.level_row-level in

@@ -66,7 +66,7 @@ returns-then-report c =
     let k = c.loop-k.k in
     let f : ℕ → Seen → Memory → Visit Seen = λ k. level_visit a.targets.now a.n a.x (ordered a.down a.n k) in
     let M = memory a.rows.now a.words.now in
-    let done = (further c).2 in
+    let done = (further c.before).2 in
     let rest : suc k + (a.n - suc k) ≡ a.n = omega (arith, c.loop-k-test.true) in
     done ∙ sym (ap (λ (v : Visit Seen). v.done) (each_failed f (suc k) (nothing_seen a.look) M (sym (ap (λ (s : Stepped). s.report.fails) done) ∙ c.if-report.true) (a.n - suc k)))
     ∙ ap (λ (k : ℕ). (each_with f k (nothing_seen a.look) M).done) rest
@@ -80,7 +80,7 @@ loop-k-smaller c = omega (arith, c.loop-k-test.true)
 pub loop-k-preserved : goal.loop-k-preserved
 loop-k-preserved c =
     let a = c.args in
-    let next = further c in
+    let next = further c.before.before in
     let f : ℕ → Seen → Memory → Visit Seen = λ k. level_visit a.targets.now a.n a.x (ordered a.down a.n k) in
     let M = memory a.rows.now a.words.now in
     let one = add-one c.loop-k.k in (
@@ -93,6 +93,6 @@ loop-k-preserved c =
     )
 
 pub returns : goal.returns
-returns-then-report c =
+returns c =
     let a = c.args in
     c.loop-k.invariant.4 ∙ ap (λ (k : ℕ). (levels_from a.targets.now a.n a.x a.down a.look k (memory a.rows.now a.words.now)).done) (omega arith)

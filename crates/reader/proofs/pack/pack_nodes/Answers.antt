@@ -49,7 +49,7 @@ loop-left-preserved c =
     )
 
 pub returns : goal.returns
-returns-in_default c =
+returns c =
     let l = c.args.text.now in
     let i = c.loop-left in
     stored-all node_parser pack_node i.packed i.to i.left (drop i.place l) (omega arith) ∙ i.invariant.2

@@ -33,17 +33,17 @@ abbrev zeros : List ℕ
 zeros = replicate 580 0
 
 -- the length is the packed sheet's
-len : (c : goal.After-packed_length-length) → c.packed_length-length.result ≡ length (pack (found c))
-len c = c.packed_length-length.ensures ∙ sym (pack-length (found c) (in_range c))
+len : (c : goal.After-packed_length-length) → c.packed_length-length.result ≡ length (pack (found c.before.before))
+len c = c.packed_length-length.ensures ∙ sym (pack-length (found c.before.before) (in_range c.before.before))
 
 -- the filled part is the packed sheet
-stored : (c : goal.After-pack_sheet) → take c.packed_length-length.result c.pack_sheet.new.packed.1.1.1.1.1.0 ≡ pack (found c)
+stored : (c : goal.After-pack_sheet) → take c.packed_length-length.result c.pack_sheet.new.packed.1.1.1.1.1.0 ≡ pack (found c.before.before.before.before.before)
 stored c =
-    let n = len c in
-    let few : length (pack (found c)) ≤ length zeros = omega (arith, length-replicate {A = ℕ} 580 0) in
+    let n = len c.before.before.before in
+    let few : length (pack (found c.before.before.before.before.before)) ≤ length zeros = omega (arith, length-replicate {A = ℕ} 580 0) in
     ap (take c.packed_length-length.result) c.pack_sheet.ensures
-    ∙ ap (λ (k : ℕ). take k (sets zeros 0 (pack (found c)))) n
-    ∙ sets_front (pack (found c)) zeros few
+    ∙ ap (λ (k : ℕ). take k (sets zeros 0 (pack (found c.before.before.before.before.before)))) n
+    ∙ sets_front (pack (found c.before.before.before.before.before)) zeros few
 
 pub returns-in_default : goal.returns-in_default
 returns-in_default c =
@@ -52,53 +52,53 @@ returns-in_default c =
 
 pub packed_length-length-requires : goal.packed_length-length-requires
 packed_length-length-requires c =
-    let r = (in_range c).counts in
+    let r = (in_range c.before).counts in
     (omega (arith, r.states), (omega (arith, r.steps), omega (arith, r.nodes)))
 
 pub returns-then-length-gt-LONGEST : goal.returns-then-length-gt-LONGEST
 returns-then-length-gt-LONGEST c =
     let a = c.args in
-    let v = found c in
+    let v = found c.before.before.before in
     let n = c.packed_length-length.ensures in
-    table_refused a.text.now a.out.now v (parsed c) _ (too_long v (in_range c) (omega arith))
+    table_refused a.text.now a.out.now v (parsed c.before.before.before) _ (too_long v (in_range c.before.before.before) (omega arith))
 
 pub pack_sheet-requires : goal.pack_sheet-requires
 pack_sheet-requires c =
     let n = c.packed_length-length.ensures in
-    (parsed c, omega arith)
+    (parsed c.before.before.before.before, omega arith)
 
 pub slice_bounds-check_table-end : goal.slice_bounds-check_table-end
-slice_bounds-check_table-end c = len c ∙ sym (ap length (stored c))
+slice_bounds-check_table-end c = len c.before.before.before.before.before ∙ sym (ap length (stored c.before.before))
 
 pub returns-in-Refused : goal.returns-in-Refused
 returns-in-Refused c =
     let a = c.args in
-    let v = found c in
-    table_refused a.text.now a.out.now v (parsed c) _ (ap table_verdict (sym (stored c)) ∙ sym c.check_table.ensures ∙ c.refusal-1.given.1)
+    let v = found c.before.before.before.before.before.before.before.before.before.before.before in
+    table_refused a.text.now a.out.now v (parsed c.before.before.before.before.before.before.before.before.before.before.before) _ (ap table_verdict (sym (stored c.before.before.before.before.before.before)) ∙ sym c.check_table.ensures ∙ c.refusal-1.given.1)
 
 pub returns-then-out-length : goal.returns-then-out-length
 returns-then-out-length c =
     let a = c.args in
-    let v = found c in
-    let n = len c in
-    too_short a.text.now a.out.now v (parsed c) (ap table_verdict (sym (stored c)) ∙ sym c.check_table.ensures ∙ c.enum_told-in_default-check_table-1.given.1) (omega arith)
+    let v = found c.before.before.before.before.before.before.before.before.before.before.before in
+    let n = len c.before.before.before.before.before.before.before.before.before in
+    too_short a.text.now a.out.now v (parsed c.before.before.before.before.before.before.before.before.before.before.before) (ap table_verdict (sym (stored c.before.before.before.before.before.before)) ∙ sym c.check_table.ensures ∙ c.enum_told-in_default-check_table-1.given.1) (omega arith)
 
 pub slice_bounds-copy_front-end : goal.slice_bounds-copy_front-end
-slice_bounds-copy_front-end c = len c ∙ sym (ap length (stored c))
+slice_bounds-copy_front-end c = len c.before.before.before.before.before.before.before.before.before.before ∙ sym (ap length (stored c.before.before.before.before.before.before.before))
 
 pub copy_front-requires : goal.copy_front-requires
 copy_front-requires c =
-    let s = ap length (stored c) in
-    let n = len c in
+    let s = ap length (stored c.before.before.before.before.before.before.before.before) in
+    let n = len c.before.before.before.before.before.before.before.before.before.before.before in
     omega arith
 
 pub returns : goal.returns
-returns-in_default c =
+returns c =
     let a = c.args in
     let l = a.out.now in
-    let v = found c in
-    let s = stored c in
-    let n = len c in
+    let v = found c.before.before.before.before.before.before.before.before.before.before.before.before.before.before.before.before in
+    let s = stored c.before.before.before.before.before.before.before.before.before.before.before in
+    let n = len c.before.before.before.before.before.before.before.before.before.before.before.before.before.before in
     let fits : length (pack v) ≤ length l = omega arith in
-    let o = accepted_read a.text.now l v (parsed c) (ap table_verdict (sym s) ∙ sym c.check_table.ensures ∙ c.enum_told-in_default-check_table-1.given.1) fits in
+    let o = accepted_read a.text.now l v (parsed c.before.before.before.before.before.before.before.before.before.before.before.before.before.before.before.before) (ap table_verdict (sym s) ∙ sym c.check_table.ensures ∙ c.enum_told-in_default-check_table-1.given.1) fits in
     (ap Length n ∙ o.0, c.copy_front.ensures ∙ ap (λ (x : List ℕ). x ++ drop (length x) l) s ∙ o.1)

@@ -25,7 +25,7 @@ pub raise-requires : goal.raise-requires
 raise-requires c = omega (arith, c.put.ensures.raised.same_length, c.requires.1.1)
 
 pub returns : goal.returns
-returns-then-set-eq0 c =
+returns c =
     let p = c.put.ensures in
     let r = c.raise.ensures in
     let more = c.spread-more.ensures in (

@@ -16,7 +16,7 @@ pub raise-requires : goal.raise-requires
 raise-requires c = omega (arith, c.put.ensures.raised.same_length, c.requires.1)
 
 pub returns : goal.returns
-returns-then-set-eq0 c =
+returns c =
     let p = c.put.ensures in
     let r = c.raise.ensures in
     (raised_then p.raised r.raised, record { kept = λ s m. r.raised.stays 32 s (p.by_index s m); nodes = r.by_index })

@@ -17,7 +17,7 @@ pub loop-left-init : goal.loop-left-init
 loop-left-init c = (left_first _ c.ranges.nodes.fits, raised_none _, gone_first _ _)
 
 pub put-requires : goal.put-requires
-put-requires c = omega (arith, low c, c.loop-left.invariant.1.same_length, c.requires)
+put-requires c = omega (arith, low c.before, c.loop-left.invariant.1.same_length, c.requires)
 
 pub loop-left-smaller : goal.loop-left-smaller
 loop-left-smaller c =

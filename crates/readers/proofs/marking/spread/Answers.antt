@@ -24,7 +24,7 @@ pub offset_bounds-readers-t : goal.offset_bounds-readers-t
 offset_bounds-readers-t c = omega (arith, low c)
 
 pub bounds-readers-t : goal.bounds-readers-t
-bounds-readers-t c = omega (arith, low c, c.requires)
+bounds-readers-t c = omega (arith, low c.before, c.requires)
 
 pub loop-left-smaller : goal.loop-left-smaller
 loop-left-smaller c =

@@ -20,7 +20,7 @@ loop-i-init c =
 pub one_node-requires : goal.one_node-requires
 one_node-requires c =
     let l = c.loop-i in
-    let x = read c in
+    let x = read c.before in
     (omega (arith, l.invariant.0.2, c.loop-i-test.true), (x.a_below, (x.b_below, l.invariant.2.same_length ∙ c.requires.readers_len)))
 
 pub overflow_add-i : goal.overflow_add-i
@@ -33,7 +33,7 @@ pub loop-i-preserved : goal.loop-i-preserved
 loop-i-preserved c =
     let l = c.loop-i in
     let i = l.i in
-    let x = (read c).here in
+    let x = (read c.before.before.before.before).here in
     let one = c.one_node in
     let after = one.new.readers.1.1.0 in
     let new = one.ensures in (

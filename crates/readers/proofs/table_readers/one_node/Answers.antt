@@ -28,7 +28,7 @@ child-in : (c : goal.After-put-2) → (k : ℕ) → is_child (operator_of c.args
 child-in c k e =
     let x = c.args.x in
     let i = c.args.i in
-    let own = itself c in
+    let own = itself c.before.before.before.before.before.before.before.before in
     let second = c.second_child-b.ensures in
     ⊎_elim
     (λ q. subst (λ (j : ℕ). member (get_or c.put-2.new.words (32 + j) 0) i ≡ true) (sym q) (c.put-2.ensures.raised.stays (32 + x.a) i (c.put.ensures.by_index i own)))
@@ -50,19 +50,19 @@ pub put-requires : goal.put-requires
 put-requires c = omega (arith, c.requires.1.0, c.requires.1.1.1)
 
 pub put-requires-2 : goal.put-requires-2
-put-requires-2 c = omega (arith, second-low c, c.put.ensures.raised.same_length, c.requires.1.1.1)
+put-requires-2 c = omega (arith, second-low c.before.before.before.before.before, c.put.ensures.raised.same_length, c.requires.1.1.1)
 
 pub returns-then-x-lt6 : goal.returns-then-x-lt6
 returns-then-x-lt6 c =
     let x = c.args.x in
-    (raised_then c.put.ensures.raised c.put-2.ensures.raised, (child-in c, λ e. absurd (true≢false (sym e ∙ no_steps x c.if-x-lt6.true))))
+    (raised_then c.put.ensures.raised c.put-2.ensures.raised, (child-in c.before.before.before.before, λ e. absurd (true≢false (sym e ∙ no_steps x c.if-x-lt6.true))))
 
 pub put-requires-3 : goal.put-requires-3
 put-requires-3 c = omega (arith, c.put-2.ensures.raised.same_length, c.put.ensures.raised.same_length, c.requires.1.1.1)
 
 pub returns : goal.returns
-returns-then-x-lt3 c =
+returns c =
     let i = c.args.i in
     let last = c.put-3.ensures in
     let before = raised_then c.put.ensures.raised c.put-2.ensures.raised in
-    (raised_then before last.raised, (λ k e. last.raised.stays (32 + k) i (child-in c k e), λ e. last.by_index i (itself c)))
+    (raised_then before last.raised, (λ k e. last.raised.stays (32 + k) i (child-in c.before.before.before.before.before.before.before.before k e), λ e. last.by_index i (itself c.before.before.before.before.before.before.before.before.before.before.before.before.before.before.before.before)))

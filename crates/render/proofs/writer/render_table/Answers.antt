@@ -39,7 +39,7 @@ len c = let p = c.write_sheet-length.ensures.place in omega arith
 stored : (c : goal.After-write_sheet-length) → take c.write_sheet-length.result c.write_sheet-length.new.text.1.0 ≡ render (sheet_of c.args.table.now)
 stored c =
     let text = render (sheet_of c.args.table.now) in
-    let few : length text ≤ length zeros = omega (arith, short c, length-replicate {A = ℕ} 2318 0) in
+    let few : length text ≤ length zeros = omega (arith, short c.before.before, length-replicate {A = ℕ} 2318 0) in
     ap (take c.write_sheet-length.result) c.write_sheet-length.ensures.text
     ∙ ap (λ (k : ℕ). take k (sets zeros 0 text)) (len c)
     ∙ sets_front text zeros few
@@ -50,35 +50,35 @@ returns-in-Refused c =
     not_accepted a.table.now a.out.now _ (sym c.check_table.ensures ∙ c.refusal-1.given.1)
 
 pub write_sheet-length-requires : goal.write_sheet-length-requires
-write_sheet-length-requires c = omega (arith, short c, length-replicate {A = ℕ} 2318 0)
+write_sheet-length-requires c = omega (arith, short c.before, length-replicate {A = ℕ} 2318 0)
 
 pub returns-then-out-length : goal.returns-then-out-length
 returns-then-out-length c =
     let a = c.args in
-    let n = len c in
-    no_room a.table.now a.out.now (accepted c) (omega arith)
+    let n = len c.before.before in
+    no_room a.table.now a.out.now (accepted c.before.before.before.before) (omega arith)
 
 pub slice_bounds-text-end : goal.slice_bounds-text-end
 slice_bounds-text-end c =
     let text = render (sheet_of c.args.table.now) in
-    omega (arith, len c, short c, ap length c.write_sheet-length.ensures.text, length-sets zeros 0 text, length-replicate {A = ℕ} 2318 0)
+    omega (arith, len c.before.before, short c.before.before.before.before, ap length c.write_sheet-length.ensures.text, length-sets zeros 0 text, length-replicate {A = ℕ} 2318 0)
 
 pub slice_bounds-copy_front-end : goal.slice_bounds-copy_front-end
-slice_bounds-copy_front-end c = len c ∙ sym (ap length (stored c))
+slice_bounds-copy_front-end c = len c.before.before.before ∙ sym (ap length (stored c.before.before.before))
 
 pub copy_front-requires : goal.copy_front-requires
 copy_front-requires c =
-    let s = ap length (stored c) in
-    let n = len c in
+    let s = ap length (stored c.before.before.before.before) in
+    let n = len c.before.before.before.before in
     omega arith
 
 pub returns : goal.returns
-returns-in-Refused c =
+returns c =
     let a = c.args in
     let l = a.out.now in
     let text = render (sheet_of a.table.now) in
-    let s = stored c in
-    let n = len c in
+    let s = stored c.before.before.before.before.before.before.before in
+    let n = len c.before.before.before.before.before.before.before in
     let fits : length text ≤ length l = omega arith in
-    let o = all-written a.table.now l (accepted c) fits in
+    let o = all-written a.table.now l (accepted c.before.before.before.before.before.before.before.before.before) fits in
     (ap Length n ∙ o.0, c.copy_front.ensures ∙ ap (λ (x : List ℕ). x ++ drop (length x) l) s ∙ o.1)

@@ -44,7 +44,7 @@ loop-m-preserved c =
     )
 
 pub returns : goal.returns
-returns-then-next-reached c =
+returns c =
     let table = c.args.table.now in
     let l = c.loop-m in
     reached_last (table_of table) (accepted table c.requires.table_value).table c.args.list.now l.m l.reached l.invariant.2 (omega (arith, l.invariant.0, c.loop-m-test.false))

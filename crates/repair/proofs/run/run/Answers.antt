@@ -45,16 +45,19 @@ part_length s = length-take-le s.args.cells s.args.words.now (cells_fit s)
 
 -- the words after it: as many, and past the first V as they were
 front_length : (c : goal.After-search_table) → length c.search_table.new.words.1.1.1.1.1.1.1.0 ≡ c.args.cells
-front_length c = c.search_table.auto.1.1.1.1.1.1.1.1.0 ∙ part_length c
+front_length c = c.search_table.auto.1.1.1.1.1.1.1.1.0 ∙ part_length c.before.before.before.before.before.before.before.before.before.before.before.before.before.before.before
 
 whole_length : (c : goal.After-search_table)
-    → length (c.search_table.new.words.1.1.1.1.1.1.1.0 ++ drop c.args.cells c.args.words.now) ≡ length c.args.words.now
+    → let start = c.before.before.before.before.before.before.before.before.before.before.before.before.before.before.before in
+    length (c.search_table.new.words.1.1.1.1.1.1.1.0 ++ drop c.args.cells c.args.words.now) ≡ length c.args.words.now
 whole_length c =
+    let start = c.before.before.before.before.before.before.before.before.before.before.before.before.before.before.before in
     let words = c.args.words.now in
     omega (arith, front_length c, cells_fit start, length-append c.search_table.new.words.1.1.1.1.1.1.1.0 (drop c.args.cells words), length-drop c.args.cells words)
 
 beyond : (c : goal.After-search_table)
-    → drop (variable_formula (table_of c.args.table.now)) (c.search_table.new.words.1.1.1.1.1.1.1.0 ++ drop c.args.cells c.args.words.now)
+    → let start = c.before.before.before.before.before.before.before.before.before.before.before.before.before.before.before in
+    drop (variable_formula (table_of c.args.table.now)) (c.search_table.new.words.1.1.1.1.1.1.1.0 ++ drop c.args.cells c.args.words.now)
     ≡ drop (variable_formula (table_of c.args.table.now)) c.args.words.now
 beyond c =
     let words = c.args.words.now in
@@ -63,12 +66,15 @@ beyond c =
 
 -- e, and that the list has e bytes still
 steps_count : (c : goal.After-counts_of-counts)
-    → c.counts_of-counts.result.steps ≡ length (table_of c.args.table.now).steps
+    → let gave = c.before.before.before.before.before.before.before.before in
+    let start = gave.before.before.before.before.before.before.before.before.before.before.before.before.before.before.before in
+    c.counts_of-counts.result.steps ≡ length (table_of c.args.table.now).steps
 steps_count c =
     steps_are c.args.table.now c.counts_of-counts.result c.counts_of-counts.ensures
 
 front_fits : (c : goal.After-counts_of-counts)
-    → c.counts_of-counts.result.steps ≤ length c.search_table.new.words.1.1.1.1.1.1.0
+    → let gave = c.before.before.before.before.before.before.before.before in
+    c.counts_of-counts.result.steps ≤ length c.search_table.new.words.1.1.1.1.1.1.0
 front_fits c =
     omega (arith, steps_count c, c.search_table.auto.1.1.1.1.1.1.1.0, c.requires.table_in_bounds)
 
@@ -79,13 +85,14 @@ readers_of-readers-requires c =
     (c.requires.table_value, (ap length sets ∙ targets-length T.steps, λ k h. ap (λ (l : List ℕ). get_or l k 0) sets ∙ targets_at T.steps k h))
 
 pub slice_bounds-search_table-end-4 : goal.slice_bounds-search_table-end-4
-slice_bounds-search_table-end-4 c = cells_fit c
+slice_bounds-search_table-end-4 c = cells_fit c.before.before.before.before.before.before.before.before.before.before.before.before.before
 
 pub slice_bounds-search_table-end-5 : goal.slice_bounds-search_table-end-5
-slice_bounds-search_table-end-5 c = sym (part_length c)
+slice_bounds-search_table-end-5 c = sym (part_length c.before.before.before.before.before.before.before.before.before.before.before.before.before.before)
 
 pub search_table-requires : goal.search_table-requires
 search_table-requires c =
+    let start = c.before.before.before.before.before.before.before.before.before.before.before.before.before.before in
     let T = table_of c.args.table.now in
     let targets = c.target_sets-targets.ensures in
     let bases = c.level_bases-b.ensures in
@@ -97,14 +104,16 @@ pub slice_bounds-strike_unreached-end : goal.slice_bounds-strike_unreached-end
 slice_bounds-strike_unreached-end c = front_fits c
 
 pub slice_bounds-strike_unreached-end-in-Found : goal.slice_bounds-strike_unreached-end-in-Found
-slice_bounds-strike_unreached-end-in-Found c = sym (length-take-le _ _ (front_fits c))
+slice_bounds-strike_unreached-end-in-Found c = sym (length-take-le _ _ (front_fits c.before))
 
 pub strike_unreached-requires : goal.strike_unreached-requires
 strike_unreached-requires c =
-    (c.requires.table_value, (c.net_of-net.ensures, length-take-le _ _ (front_fits c) ∙ steps_count c))
+    (c.requires.table_value, (c.net_of-net.ensures, length-take-le _ _ (front_fits c.before) ∙ steps_count c.before))
 
 pub returns-in-Found : goal.returns-in-Found
 returns-in-Found c =
+    let counts = c.before.before.before.before in
+    let gave = counts.before.before.before.before.before.before.before.before in
     let T = table_of c.args.table.now in
     let list = c.args.list.now in
     let told = sym c.price-1.given.1 ∙ c.search_table.ensures.value in
@@ -113,6 +122,7 @@ returns-in-Found c =
 
 pub returns-in-None : goal.returns-in-None
 returns-in-None c =
+    let gave = c.before.before.before.before.before.before.before in
     let T = table_of c.args.table.now in
     let list = c.args.list.now in
     let told = sym c.c-1.given.1 ∙ c.search_table.ensures.value in
@@ -120,6 +130,7 @@ returns-in-None c =
 
 pub returns-in-Spent : goal.returns-in-Spent
 returns-in-Spent c =
+    let gave = c.before.before.before.before.before.before.before in
     let T = table_of c.args.table.now in
     let list = c.args.list.now in
     let told = sym c.c-in-Spent-1.given.1 ∙ c.search_table.ensures.value in

@@ -11,10 +11,10 @@ use Rattle.report.specs.Report.{counted, kept_lines}
 use Rattle.report.proofs.answer.write_found.Goals as goal
 
 abbrev start : goal.After-write_answer-third → goal.Start
-start k = k
+start k = k.before.before.before.before.before.before.before
 
 abbrev answered : goal.After-put_bytes-at → goal.After-write_answer-third
-answered k = k
+answered k = k.before.before.before.before.before
 
 abbrev lines : goal.Start → List ℕ
 lines s = kept_lines (steps_of s.args.table.now) s.args.list.now
@@ -36,26 +36,30 @@ named k = left_next _ _ _ _ _ names _ (headed (answered k)) _ _ k.put_bytes-at.e
 
 -- the steps that are read are the table's
 same_lines : (k : goal.After-steps_part)
-    → let s = start (answered k) in
-    kept_lines (records step_of step_width (answered k).before.before.before.Counts-of.result.steps k.steps_part.result.now) s.args.list.now ≡ lines s
+    → let s = start (answered k.before.before.before) in
+    kept_lines (records step_of step_width (answered k.before.before.before).before.before.before.Counts-of.result.steps k.steps_part.result.now) s.args.list.now ≡ lines s
 same_lines k =
-    let s = start (answered k) in
-    λ i. kept_lines (records step_of step_width ((answered k).before.before.before.Counts-of.ensures i).steps (k.steps_part.ensures i)) s.args.list.now
+    let s = start (answered k.before.before.before) in
+    λ i. kept_lines (records step_of step_width ((answered k.before.before.before).before.before.before.Counts-of.ensures i).steps (k.steps_part.ensures i)) s.args.list.now
 
 pub write_answer-third-requires : goal.write_answer-third-requires
 write_answer-third-requires c =
+    let s = c.before.before.before.before.before.before in
     left_room _ _ _ _ _ (counted (ascii "found ") c.args.choices c.args.price) _ (left_all c.args.out.now 0 (whole s)) c.requires.room
 
 pub put_bytes-at-requires : goal.put_bytes-at-requires
 put_bytes-at-requires c =
+    let k = c.before.before.before.before in
     left_room _ _ _ _ _ names _ (headed k) (start k).requires.1
 
 pub write_steps-requires : goal.write_steps-requires
 write_steps-requires c =
+    let k = c.before.before.before.before in
     let s = start (answered k) in
     let count = ap (λ (x : Counts). x.steps) (answered k).before.before.before.Counts-of.ensures in
-    (omega (arith, count, s.pre.0), room_as c.put_bytes-at.new.text c.put_bytes-at.result _ _ (same_lines c) (left_room_all _ _ _ _ _ _ (named k) s.pre.1))
+    (omega (arith, count, s.pre.0), room_as c.put_bytes-at.new.text c.put_bytes-at.result _ _ (same_lines c.before) (left_room_all _ _ _ _ _ _ (named k) s.pre.1))
 
 pub returns : goal.returns
 returns c =
-    left_end _ _ _ _ _ _ (named c) _ _ (stored_as _ _ _ _ _ _ (same_lines k) c.write_steps.ensures)
+    let k = c.before.before.before.before in
+    left_end _ _ _ _ _ _ (named k.before.before.before) _ _ (stored_as _ _ _ _ _ _ (same_lines k) c.write_steps.ensures)

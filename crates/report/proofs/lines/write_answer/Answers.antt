@@ -17,32 +17,32 @@ values s = line (s.args.choices ∷ s.args.price ∷ [])
 
 -- where each piece is stored, back to where all are still left
 abbrev first : goal.After-put_bytes-arg-2-1 → goal.Start
-first k = k
+first k = k.before.before.before.before
 
 abbrev second : goal.After-put_bytes-arg-3-1 → goal.After-put_bytes-second
-second k = k
+second k = k.before.before.before
 
 abbrev third : goal.After-put_field-arg-1 → goal.After-put_bytes-third
-third k = k
+third k = k.before.before.before
 
 -- what is left behind the names, behind the word, and behind the choices
-named : (k : goal.After-put_bytes-second) → let s = first k in Left s.args.text.now 0 (whole s) k.put_bytes-second.new.text k.put_bytes-second.result (s.args.word.now ++ values s)
+named : (k : goal.After-put_bytes-second) → let s = first k.before in Left s.args.text.now 0 (whole s) k.put_bytes-second.new.text k.put_bytes-second.result (s.args.word.now ++ values s)
 named k =
-    let s = first k in
+    let s = first k.before in
     left_next _ _ _ _ _ names _ (left_all s.args.text.now 0 (whole s)) _ _ k.put_bytes-second.ensures
 
-worded : (k : goal.After-put_bytes-third) → let s = first (second k).before in Left s.args.text.now 0 (whole s) k.put_bytes-third.new.text k.put_bytes-third.result (values s)
+worded : (k : goal.After-put_bytes-third) → let s = first (second k.before).before in Left s.args.text.now 0 (whole s) k.put_bytes-third.new.text k.put_bytes-third.result (values s)
 worded k =
-    let s = first (second k).before in
-    left_next _ _ _ _ _ s.args.word.now _ (named (second k)) _ _ k.put_bytes-third.ensures
+    let s = first (second k.before).before in
+    left_next _ _ _ _ _ s.args.word.now _ (named (second k.before)) _ _ k.put_bytes-third.ensures
 
 numbered : (k : goal.After-put_field-last)
-    → let s = first (second (third k).before).before in
+    → let s = first (second (third k.before).before).before in
     Left s.args.text.now 0 (whole s) k.put_field-last.new.text k.put_field-last.result (ended 10 s.args.price)
 unfolding line
 numbered k =
-    let s = first (second (third k).before).before in
-    left_next _ _ _ _ _ (ended 32 s.args.choices) (ended 10 s.args.price) (worded (third k)) _ _ k.put_field-last.ensures
+    let s = first (second (third k.before).before).before in
+    left_next _ _ _ _ _ (ended 32 s.args.choices) (ended 10 s.args.price) (worded (third k.before)) _ _ k.put_field-last.ensures
 
 pub put_bytes-second-requires : goal.put_bytes-second-requires
 put_bytes-second-requires c =
@@ -62,7 +62,8 @@ put_field-last-requires c =
 
 pub put_field-requires : goal.put_field-requires
 put_field-requires c =
-    left_room_all _ _ _ _ _ _ (numbered k) (first (second (third c).before).before).requires
+    let k = c.before.before.before in
+    left_room_all _ _ _ _ _ _ (numbered k) (first (second (third k.before).before).before).requires
 
 pub returns : goal.returns
-returns c = left_end _ _ _ _ _ _ (numbered c) _ _ c.put_field.ensures
+returns c = left_end _ _ _ _ _ _ (numbered c.before.before.before.before.before.before) _ _ c.put_field.ensures

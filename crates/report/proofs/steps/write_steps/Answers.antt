@@ -33,10 +33,11 @@ bounds-list-i c = omega arith
 pub loop-i-preserved : goal.loop-i-preserved
 loop-i-preserved c =
     let p = c.write_triple-place in
-    (omega arith, left_next _ _ _ _ _ _ _ (line_next c) _ _ p.ensures)
+    (omega arith, left_next _ _ _ _ _ _ _ (line_next c.before.before.before.before.before) _ _ p.ensures)
 
 pub write_triple-place-requires : goal.write_triple-place-requires
 write_triple-place-requires c =
+    let k = c.before.before in
     left_room _ _ _ _ _ (kept_line c.step_at-x.result (get_or c.args.list.now c.loop-i.i 0)) _ (line_next k) c.requires.room
 
 pub overflow_add-i : goal.overflow_add-i

@@ -27,10 +27,10 @@ pub row_at-x-requires : goal.row_at-x-requires
 row_at-x-requires c = omega (arith, low c)
 
 pub offset_bounds-targets-s : goal.offset_bounds-targets-s
-offset_bounds-targets-s c = omega (arith, low c)
+offset_bounds-targets-s c = omega (arith, low c.before)
 
 pub bounds-targets-s : goal.bounds-targets-s
-bounds-targets-s c = omega (arith, low c)
+bounds-targets-s c = omega (arith, low c.before.before)
 
 pub loop-left-smaller : goal.loop-left-smaller
 loop-left-smaller c =

@@ -35,7 +35,7 @@ returns-then-yes c =
     }
 
 pub returns : goal.returns
-returns-then-yes c =
+returns c =
     let a = c.args in
     let l = c.if-no.new in
     let u = unmet a.target a.step a.end in

@@ -14,7 +14,7 @@ returns-then-set-eq0 c = rw (eq-eqb c.args.set 0 c.if-set-eq0.true)
 
 pub returns : goal.returns
 unfolding only
-returns-then-set-eq0 c =
+returns c =
     let x : ℕ = c.args.set in
     let without_lowest : c.remove.result ≡ set_of 32 (λ t. member x t && not (eqb t (lowest_of 32 (member x)))) = rw (← c.lowest.ensures) c.remove.ensures in
     rw (ne_eqb x 0 c.if-set-eq0.false, without_lowest)

@@ -6,4 +6,4 @@ pub returns-then-r-q : goal.returns-then-r-q
 returns-then-r-q c = simp (ne_eqb _ _ c.if-r-q.true)
 
 pub returns : goal.returns
-returns-then-r-q c = simp (eq-eqb _ _ c.if-r-q.false)
+returns c = simp (eq-eqb _ _ c.if-r-q.false)

@@ -5,4 +5,4 @@ use Rattle.rows.specs.Row.{turned}
 use Rattle.rows.proofs.row.turn.Goals as goal
 
 pub returns : goal.returns
-returns-then-same c = sym (ap (λ (b : Bool). turned b c.args.r) c.if-same.false)
+returns c = sym (ap (λ (b : Bool). turned b c.args.r) c.if-same.false)

@@ -10,7 +10,7 @@ returns-then-is_known c =
     ap (λ (b : Bool). b || step_bit a.rows.now false a.x) (sym c.if-is_known.true ∙ c.is_known.ensures)
 
 pub returns : goal.returns
-returns-then-is_known c =
+returns c =
     let a = c.args in
     c.is_known-2.ensures
     ∙ ap (λ (b : Bool). b || step_bit a.rows.now false a.x) (sym c.if-is_known.false ∙ c.is_known.ensures)

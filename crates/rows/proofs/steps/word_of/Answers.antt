@@ -8,4 +8,4 @@ pub returns-then-kept : goal.returns-then-kept
 returns-then-kept c = ap (λ (b : Bool). word_of b c.args.s) (sym c.if-kept.true)
 
 pub returns : goal.returns
-returns-then-kept c = ap (λ (b : Bool). word_of b c.args.s) (sym c.if-kept.false)
+returns c = ap (λ (b : Bool). word_of b c.args.s) (sym c.if-kept.false)

@@ -13,4 +13,4 @@ read c =
     read_step c.args.table.now c.requires.0 c.args.j c.requires.1 c.steps_part-steps.result.now c.steps_part-steps.ensures c.step_at-x.result c.step_at-x.ensures
 
 pub returns : goal.returns
-returns c = c.insert.ensures ∙ ap (λ (x : Step). set_of 32 (λ t. member 0 t || eqb t x.from)) (read c).here
+returns c = c.insert.ensures ∙ ap (λ (x : Step). set_of 32 (λ t. member 0 t || eqb t x.from)) (read c.before).here

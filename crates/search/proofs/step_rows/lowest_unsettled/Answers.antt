@@ -58,7 +58,7 @@ loop-j-preserved c =
     (omega arith, l.invariant.1, below_more (λ i. is_unsettled T rows i ≡ false) l.j l.invariant.2 shut)
 
 pub returns : goal.returns
-returns-then-not-is_settled c =
+returns c =
     let l = c.loop-j in
     let T = table_of c.args.table.now in
     l.invariant.1 ∙ lowest_nowhere (length T.steps) (is_unsettled T c.args.rows.now) (λ i h. l.invariant.2 i (omega arith))

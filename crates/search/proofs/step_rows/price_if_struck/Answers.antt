@@ -13,6 +13,6 @@ returns-then-is_known c =
     ap (λ (b : Bool). cond b a.x.price 0) (sym c.if-is_known.true ∙ c.is_known.ensures)
 
 pub returns : goal.returns
-returns-then-is_known c =
+returns c =
     let a = c.args in
     ap (λ (b : Bool). cond b a.x.price 0) (sym c.if-is_known.false ∙ c.is_known.ensures)

@@ -16,7 +16,8 @@ use Rattle.search.proofs.step_rows.struck_price.Goals as goal
 
 -- the step that was read, and its price
 read : (c : goal.After-step_at-x)
-    → ReadStep c.args.table.now c.loop-j.j c.step_at-x.result × ((step_at (table_of c.args.table.now) c.loop-j.j).price < 256)
+    → let s = c.before.before.before.before.before.before.before in
+    ReadStep c.args.table.now c.loop-j.j c.step_at-x.result × ((step_at (table_of c.args.table.now) c.loop-j.j).price < 256)
 read c =
     let l = c.loop-j in
     let part = c.steps_part-steps in (
@@ -26,10 +27,11 @@ read c =
 
 -- what is added
 added : (c : goal.After-price_if_struck-price)
-    → let l = c.loop-j in
+    → let s = c.before.before.before.before.before.before.before.before in
+    let l = c.loop-j in
     (c.price_if_struck-price.result ≡ cost c.args.table.now c.args.rows.now l.j) × (c.price_if_struck-price.result ≤ 255)
 added c =
-    let r = read c in
+    let r = read c.before in
     let rows = c.args.rows.now in
     let same = c.price_if_struck-price.ensures ∙ ap (λ (x : Step). cond (step_bit rows false x) x.price 0) r.0.here in
     (same, rw same (cond_most (step_bit rows false (step_at (table_of c.args.table.now) c.loop-j.j)) _ 255 (omega (arith, r.1))))

@@ -20,7 +20,7 @@ read c =
 
 -- its word
 below : (c : goal.After-word_of-at) → c.word_of-at.result < 64
-below c = omega (arith, c.word_of-at.ensures, word_below c.args.kept c.step_at-x.result.from (read c).from_below)
+below c = omega (arith, c.word_of-at.ensures, word_below c.args.kept c.step_at-x.result.from (read c.before).from_below)
 
 pub word_of-at-requires : goal.word_of-at-requires
 word_of-at-requires c = (read c).from_below
@@ -32,10 +32,10 @@ pub bounds-rows-at : goal.bounds-rows-at
 bounds-rows-at c = omega (arith, below c)
 
 pub offset_bounds-next-at : goal.offset_bounds-next-at
-offset_bounds-next-at c = omega (arith, below c)
+offset_bounds-next-at c = omega (arith, below c.before)
 
 pub bounds-next-at : goal.bounds-next-at
-bounds-next-at c = omega (arith, below c)
+bounds-next-at c = omega (arith, below c.before)
 
 pub returns : goal.returns
 returns c =
@@ -45,4 +45,4 @@ returns c =
     let with_at : ℕ → ℕ → List ℕ = λ at to. set rows at (set_of 32 (λ t. member (get_or rows at 0) t || eqb t to)) in
     ap (set rows c.word_of-at.result) c.insert.ensures
     ∙ ap (λ (at : ℕ). with_at at x.to) c.word_of-at.ensures
-    ∙ ap (λ (y : Step). with_at (word_of a.kept y.from) y.to) (read c).here
+    ∙ ap (λ (y : Step). with_at (word_of a.kept y.from) y.to) (read c.before.before).here

@@ -13,7 +13,7 @@ returns-in_default c =
     rw e1
 
 pub returns : goal.returns
-returns-in_default c =
+returns c =
     let l = c.args.text.now in
     let v = c.first-1.given in
     let e1 : exactly counts_names l ≡ got tt (drop v.0.0 l) = sym c.skip_names.ensures ∙ ap (placed l tt) v.1 in

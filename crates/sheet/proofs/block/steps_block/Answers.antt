@@ -17,7 +17,7 @@ returns-in_default-skip_steps c =
     no_lines steps_names a.text.now (drop a.at a.text.now) a.count step_parser c.skip_names.ensures v.0.0 v.1 c.skip_steps.ensures c.enum_told-in_default-skip_steps-1.given.1
 
 pub returns : goal.returns
-returns-in_default c =
+returns c =
     let a = c.args in
     let v = c.first-1.given in
     let w = c.next-1.given in

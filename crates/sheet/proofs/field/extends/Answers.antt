@@ -21,6 +21,6 @@ pub overflow_sub-result : goal.overflow_sub-result
 overflow_sub-result c = (digit_bounds c.args.b (sym c.is_digit.ensures ∙ not-false _ c.if-not-is_digit.false)).0
 
 pub returns : goal.returns
-returns-then-not-is_digit c =
+returns c =
     let d : is_digit c.args.b ≡ true = sym c.is_digit.ensures ∙ not-false _ c.if-not-is_digit.false in
     simp (d, lt-ltb 0 c.args.value (omega arith))

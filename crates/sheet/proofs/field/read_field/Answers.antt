@@ -117,6 +117,6 @@ loop-i-preserved c =
 
 pub returns : goal.returns
 unfolding digits_up_to
-returns-then-text-at c =
+returns c =
     let a = c.args in
     sym (c.loop-i.invariant.2 ∙ ap (digits_up_to a.max a.stop c.loop-i.value) (drop_of_length-le a.text.now {i = c.loop-i.i} c.loop-i-test.false))

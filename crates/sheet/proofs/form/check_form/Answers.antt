@@ -65,7 +65,7 @@ returns-then-end-text c =
 
 pub returns : goal.returns
 unfolding parse sheet_parser
-returns-in_default c =
+returns c =
     let l = c.args.text.now in
     let v1 = c.counts-1.given in
     let e1 : counts_block l ≡ got v1.0.0 (drop v1.0.1.0 l) = sym c.counts_block.ensures ∙ ap (counts_read l) v1.1 in

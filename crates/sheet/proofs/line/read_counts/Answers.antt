@@ -46,7 +46,7 @@ returns-in_default-read_field-3 c =
     rw (e1, e2, e3, e4)
 
 pub returns : goal.returns
-returns-in_default c =
+returns c =
     let a = c.args in
     let l = a.text.now in
     let v1 = c.states-1.given in

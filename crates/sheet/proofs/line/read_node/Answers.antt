@@ -33,7 +33,7 @@ returns-in_default-read_field-2 c =
     rw (e1, e2, e3)
 
 pub returns : goal.returns
-returns-in_default c =
+returns c =
     let a = c.args in
     let l = a.text.now in
     let v1 = c.kind-1.given in

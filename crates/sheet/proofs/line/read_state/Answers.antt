@@ -22,7 +22,7 @@ returns-in_default-read_field c =
     rw (e1, e2)
 
 pub returns : goal.returns
-returns-in_default c =
+returns c =
     let a = c.args in
     let l = a.text.now in
     let v = c.initial-1.given in

@@ -56,7 +56,7 @@ loop-i-preserved c =
 
 pub returns : goal.returns
 unfolding exactly
-returns-then-text-place c =
+returns c =
     let a = c.args in
     let p = c.loop-i.place in
     sym (c.loop-i.invariant.1 ∙ ap (λ (n : List ℕ). exactly n (drop p a.text.now)) (drop_of_length-le a.names.now {i = c.loop-i.i} c.loop-i-test.false))

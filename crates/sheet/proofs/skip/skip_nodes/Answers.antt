@@ -33,7 +33,7 @@ loop-left-preserved c =
 
 pub returns : goal.returns
 unfolding times
-returns-in_default c =
+returns c =
     let a = c.args in
     let l = a.text.now in
     let k : c.loop-left.left ≡ 0 = omega arith in

@@ -12,4 +12,4 @@ pub returns-then-kind-lt14 : goal.returns-then-kind-lt14
 returns-then-kind-lt14 c = simp (le-ltb _ 10 c.if-kind-lt10.false, le-ltb _ 12 c.if-kind-lt12.false, lt-ltb _ 14 c.if-kind-lt14.true)
 
 pub returns : goal.returns
-returns-then-kind-lt10 c = simp (le-ltb _ 10 c.if-kind-lt10.false, le-ltb _ 12 c.if-kind-lt12.false, le-ltb _ 14 c.if-kind-lt14.false)
+returns c = simp (le-ltb _ 10 c.if-kind-lt10.false, le-ltb _ 12 c.if-kind-lt12.false, le-ltb _ 14 c.if-kind-lt14.false)

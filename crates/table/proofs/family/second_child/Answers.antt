@@ -6,4 +6,4 @@ pub returns-then-x-lt12 : goal.returns-then-x-lt12
 returns-then-x-lt12 c = simp (lt-ltb _ 12 c.if-x-lt12.true)
 
 pub returns : goal.returns
-returns-then-x-lt12 c = simp (le-ltb _ 12 c.if-x-lt12.false)
+returns c = simp (le-ltb _ 12 c.if-x-lt12.false)

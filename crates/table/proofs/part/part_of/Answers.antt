@@ -22,6 +22,6 @@ returns-then-bytes-start-2 c =
     ∙ sym (take_all a.size l (omega (arith, length-drop a.start a.bytes.now)))
 
 pub returns : goal.returns
-returns-then-bytes-start c =
+returns c =
     let a = c.args in
     ap (λ (k : ℕ). take k (drop a.start a.bytes.now)) (add-sub_cancel_left a.start a.size)

@@ -13,7 +13,7 @@ returns-then-section-i c =
     ap step_of (sym (past 3 a.i a.section.now (omega arith)))
 
 pub returns : goal.returns
-returns-then-section-i c =
+returns c =
     let a = c.args in
     let l = a.section.now in
     λ i. record {

@@ -7,7 +7,7 @@ use Rattle.table.proofs.Records.{field-first}
 use Rattle.table.proofs.record.node_at.Goals as goal
 
 pub returns : goal.returns
-returns-then-section-i c =
+returns c =
     let a = c.args in
     let l = a.section.now in
     λ i. record {

@@ -15,7 +15,7 @@ pub returns-in_default : goal.returns-in_default
 returns-in_default c = sym (get_or-eq_default shapes Unknown {n = c.args.kind} (omega arith))
 
 pub returns-in-4 : goal.returns-in-4
-returns-in-4 c = two (λ (k : ℕ). Binary ≡ shape_of k) 4 c.args.kind (omega (arith, c.in_default-1.rest.0.1, c.in_default-1.rest.1)) (omega arith) refl refl
+returns-in-4 c = two (λ (k : ℕ). Binary ≡ shape_of k) 4 c.args.kind (omega arith) (omega arith) refl refl
 
 pub returns-in-4-2 : goal.returns-in-4-2
 returns-in-4-2 c = four (λ (k : ℕ). Binary ≡ shape_of k) 8 c.args.kind (omega arith) (omega arith) refl refl refl refl

@@ -22,7 +22,7 @@ returns-then-j-counts c =
     c.lowest_unsettled-j.result c.lowest_unsettled-j.ensures (omega arith)
 
 pub write_list-requires : goal.write_list-requires
-write_list-requires c = c in (s.requires.0.0, s.requires.0.1, s.requires.1)
+write_list-requires c = c.before.before.before.before.before.before.before.before.before.before.before.before in (s.requires.0.0, s.requires.0.1, s.requires.1)
 
 pub returns-then-undercuts : goal.returns-then-undercuts
 returns-then-undercuts c =
@@ -34,7 +34,7 @@ returns-then-undercuts c =
     c.lowest_unsettled-j.result c.lowest_unsettled-j.ensures (omega arith) c.write_list.new.list.1.1.0 c.write_list.ensures
 
 pub returns : goal.returns
-returns-then-closed c =
+returns c =
     let under : c.undercuts.result ≡ beats c.struck_price-price.result c.args.best = c.undercuts.ensures in
     comes_dear _ (accepted c.args.table.now c.requires.table_value.0).table P fine _ _ closes rest c.args.best c.args.find.now b stores
     c.if-closed.false c.struck_price-price.result c.struck_price-price.ensures (sym c.if-undercuts.false ∙ under)

@@ -13,15 +13,17 @@ use Rattle.walk.proofs.start.walk_table.Goals as goal
 
 -- what the closure of nothing comes to
 comes : (c : goal.After-assess)
-    → Comes (table_of c.args.table.now) Unfound (memory c.args.t7 c.args.words.now) c.assess.new.find.1.1.1.1.0 [] unfound c.assess.result
+    → let s = c.before.before.before.before.before.before.before.before.before in
+    Comes (table_of c.args.table.now) Unfound (memory c.args.t7 c.args.words.now) c.assess.new.find.1.1.1.1.0 [] unfound c.assess.result
 comes c =
     c.assess.ensures c.args.words.now [] unfound (closure-is_right (table_of c.args.table.now) (handed_table c.requires.handed)).fine_none c.requires.closes c.requires.resting tt
 
 pub assess-requires : goal.assess-requires
-assess-requires c = c in ((s.requires.0.setting.accepted, s.requires.0.rows_size), s.requires.0.room)
+assess-requires c = c.before.before.before.before.before.before.before.before in ((s.requires.0.setting.accepted, s.requires.0.rows_size), s.requires.0.room)
 
 pub both_ways-requires : goal.both_ways-requires
 both_ways-requires c =
+    let assess = opened.before.before.before.before in
     (
       handed_again c.requires.handed c.requires.handed.words_size c.assess.auto.1.1.1.1.0,
       (zero-le, start_stands (table_of c.args.table.now) c.args.cap _ _ _ (comes assess) c.j-1.given.0.0 c.j-1.given.1),
@@ -29,8 +31,10 @@ both_ways-requires c =
 
 pub returns-in-Ended : goal.returns-in-Ended
 returns-in-Ended c =
+    let assess = ended.before.before.before.before in
     start_ended (table_of c.args.table.now) c.args.cap _ _ _ (comes assess) c.best-1.given.0.0 c.best-1.given.1
 
 pub returns-in-Unsettled : goal.returns-in-Unsettled
 returns-in-Unsettled c =
+    let assess = opened.before.before.before.before in
     start_onward (table_of c.args.table.now) c.args.cap _ _ _ (comes assess) c.j-1.given.0.0 c.j-1.given.1 _ _ c.both_ways.ensures

@@ -75,7 +75,7 @@ loop-i-preserved c =
     )
 
 pub returns : goal.returns
-returns-then-words-levels c =
+returns c =
     let l = c.loop-i in
     let all : l.i ≡ c.args.levels = omega arith in
     record {

@@ -11,6 +11,6 @@ returns-then-self c =
     ap (λ (b : Bool). counted_if b self) (sym (eq-eqb self.made self.cap c.if-self.true))
 
 pub returns : goal.returns
-returns-then-self c =
+returns c =
     let self = c.args.self in
     ap (λ (b : Bool). counted_if b self) (sym (ne_eqb self.made self.cap c.if-self.false))
