@@ -8,11 +8,11 @@ use Rattle.fitter.proofs.fitter_holding.Goals as goal
 pub returns-in-Count : goal.returns-in-Count
 returns-in-Count c =
     let a = c.args in
-    let answer = sym c.holding_states.ensures.value ∙ c.k-1.given.1 in
+    let answer = sym c.holding_states.ensures.value ∙ c.in-Count.is in
     (sym (ap holding_number answer), (c.holding_states.ensures.out_after, sym (ap (λ (h : Holding). holding_count h a.count.now) answer)))
 
 pub returns-in-Refused : goal.returns-in-Refused
 returns-in-Refused c =
     let a = c.args in
-    let answer = sym c.holding_states.ensures.value ∙ c.refusal-1.given.1 in
+    let answer = sym c.holding_states.ensures.value ∙ c.in-Refused.is in
     (c.refusal_number.ensures ∙ sym (ap holding_number answer), (c.holding_states.ensures.out_after, sym (ap (λ (h : Holding). holding_count h a.count.now) answer)))

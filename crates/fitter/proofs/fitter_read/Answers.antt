@@ -8,11 +8,11 @@ use Rattle.fitter.proofs.fitter_read.Goals as goal
 pub returns-in-Length : goal.returns-in-Length
 returns-in-Length c =
     let a = c.args in
-    let answer = sym c.read.ensures.value ∙ c.k-1.given.1 in
+    let answer = sym c.read.ensures.value ∙ c.in-Length.is in
     (sym (ap read_number answer), (c.read.ensures.out_after, sym (ap (λ (r : Read). read_length r a.length.now) answer)))
 
 pub returns-in-Refused : goal.returns-in-Refused
 returns-in-Refused c =
     let a = c.args in
-    let answer = sym c.read.ensures.value ∙ c.refusal-1.given.1 in
+    let answer = sym c.read.ensures.value ∙ c.in-Refused.is in
     (c.refusal_number.ensures ∙ sym (ap read_number answer), (c.read.ensures.out_after, sym (ap (λ (r : Read). read_length r a.length.now) answer)))

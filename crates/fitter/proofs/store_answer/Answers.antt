@@ -17,19 +17,19 @@ told_so choices price settled a b is = subst (Held choices price settled _ _ _ _
 pub returns-in-Found : goal.returns-in-Found
 returns-in-Found c =
     let a = c.args in
-    told_so a.choices.now a.price.now a.settled.now a.answer _ c.answer-1.given.1 c.store.ensures
+    told_so a.choices.now a.price.now a.settled.now a.answer _ c.in-Found.is c.store.ensures
 
 pub returns-in-None : goal.returns-in-None
 returns-in-None c =
     let a = c.args in
-    told_so a.choices.now a.price.now a.settled.now a.answer _ c.answer-in-None-1.given.1 c.store-in-None.ensures
+    told_so a.choices.now a.price.now a.settled.now a.answer _ c.in-None.is c.store-in-None.ensures
 
 pub returns-in-Spent : goal.returns-in-Spent
 returns-in-Spent c =
     let a = c.args in
-    told_so a.choices.now a.price.now a.settled.now a.answer _ c.answer-in-Spent-1.given.1 c.store-in-Spent.ensures
+    told_so a.choices.now a.price.now a.settled.now a.answer _ c.in-Spent.is c.store-in-Spent.ensures
 
 pub returns-in-Refused : goal.returns-in-Refused
 returns-in-Refused c =
     let a = c.args in
-    told_so a.choices.now a.price.now a.settled.now a.answer _ c.answer-in-Refused-1.given.1 (c.refusal_number.ensures, (refl, (refl, refl)))
+    told_so a.choices.now a.price.now a.settled.now a.answer _ c.in-Refused.is (c.refusal_number.ensures, (refl, (refl, refl)))

@@ -60,7 +60,7 @@ starts-left : (c : goal.After-intersection-starts)
     × (not (eqb c.intersection-starts.result 0) ≡ keeps_initial (table_of a.table.now) a.list.now)
 starts-left c =
     let A = c.analyse-a in
-    let ok = c.enum_told-in_default-1.given.1 in
+    let ok = c.in_default.is in
     (left _ _ A.result A.ensures ok, keeps _ _ A.result A.ensures ok c.intersection-starts.result c.intersection-starts.ensures)
 
 -- 16 and 13 are left, and what decides 16
@@ -72,7 +72,7 @@ reached_left c =
     let i = c.before.before.before.before in
     let a = c.args in
     let A = c.analyse-a in
-    let ok = c.enum_told-in_default-1.given.1 in
+    let ok = c.in_default.is in
     let r = starts-left i in
     let some = sym r.1 ∙ ap not (ne_eqb c.intersection-starts.result 0 c.if-starts-eq0.false) in
     let all = leaves _ _ A.result A.ensures ok c.intersection-starts.result c.intersection-starts.ensures c.reached_states-reached.result c.reached_states-reached.ensures c.minus.result c.minus.ensures in
@@ -84,7 +84,7 @@ root-left : (c : goal.After-minus-2)
     judge_verdict a.table.now a.list.now ≡ require RootFails (eqb c.minus-2.result 0)
 root-left c =
     let A = c.analyse-a in
-    let ok = c.enum_told-in_default-1.given.1 in
+    let ok = c.in_default.is in
     let all = eq-eqb c.minus.result 0 c.if-minus-ne0.false in
     let marks = root_marks _ _ A.result A.ensures ok c.intersection-starts.result c.intersection-starts.ensures c.minus-2.result c.minus-2.ensures in
     reached_left c.before.before ∙ then_next _ _ (ap (require UnreachedStep) all) ∙ ap (require RootFails) (sym marks)
@@ -94,8 +94,7 @@ returns-in-Refused c =
     let t = c.args.table.now in
     let l = c.args.list.now in
     let v = verdict_is Any t l c.analyse-a.result c.analyse-a.ensures in
-    let told = c.enum_told-1.given in
-    v ∙ sym (judge_order t l ∙ then_refused (analysis_verdict Any t l) _ told.0.0 (sym v ∙ told.1))
+    v ∙ sym (judge_order t l ∙ then_refused (analysis_verdict Any t l) _ c.in-Refused.field-0 (sym v ∙ c.in-Refused.is))
 
 pub returns-then-starts-eq0 : goal.returns-then-starts-eq0
 returns-then-starts-eq0 c =
@@ -114,5 +113,5 @@ returns-then-minus-ne0-2 c = sym (root-left c.before ∙ ap (require RootFails) 
 
 pub returns : goal.returns
 returns c =
-    c.enum_told-in_default-1.given.1
+    c.in_default.is
     ∙ sym (root-left c.before ∙ ap (require RootFails) (eq-eqb c.minus-2.result 0 c.if-minus-ne0-2.false))

@@ -19,7 +19,7 @@ abbrev start : goal.After-variable_count-v → goal.Start
 start k = k.before.before.before.before.before.before.before.before.before
 
 ok_at : (k : goal.After-variable_count-v) → table_verdict (start k).args.table.now ≡ Accepted
-ok_at k = sym k.check_table.ensures ∙ k.enum_told-1.given.1
+ok_at k = sym k.check_table.ensures ∙ k.in_default.is
 
 steps-at : (k : goal.After-variable_count-v) → k.counts_of-c.result.steps ≡ length (table_of (start k).args.table.now).steps
 steps-at k = ap (λ (c : Counts). c.steps) k.counts_of-c.ensures ∙ sym (accepted (start k).args.table.now (ok_at k)).steps_count
@@ -27,9 +27,8 @@ steps-at k = ap (λ (c : Counts). c.steps) k.counts_of-c.ensures ∙ sym (accept
 pub returns-in-Refused : goal.returns-in-Refused
 returns-in-Refused c =
     let a = c.args in
-    let r = c.refusal-1.given in
-    left a.table.now a.cap a.list.now a.bytes.now a.words.now (Refused r.0.0)
-    (table_refused a.table.now a.list.now a.bytes.now a.words.now r.0.0 (sym c.check_table.ensures ∙ r.1))
+    left a.table.now a.cap a.list.now a.bytes.now a.words.now (Refused c.in-Refused.refusal)
+    (table_refused a.table.now a.list.now a.bytes.now a.words.now c.in-Refused.refusal (sym c.check_table.ensures ∙ c.in-Refused.is))
 
 pub returns-then-list-c : goal.returns-then-list-c
 returns-then-list-c c =

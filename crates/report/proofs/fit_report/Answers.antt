@@ -28,16 +28,16 @@ text-is k r e =
 abbrev read : goal.In-Length-2 → goal.After-read
 read k = k.before.before.before
 
-length-answered : (k : goal.In-Length-2) → read_answer (start (read k)).args.text.now (zeros 580) ≡ Length k.n-1.given.0.0
-length-answered k = sym (read k).read.ensures.0 ∙ k.n-1.given.1
+length-answered : (k : goal.In-Length-2) → read_answer (start (read k)).args.text.now (zeros 580) ≡ Length k.in-Length.n
+length-answered k = sym (read k).read.ensures.0 ∙ k.in-Length.is
 
-short : (k : goal.In-Length-2) → k.n-1.given.0.0 ≤ length (read k).read.new.1.0
-short k = omega (arith, read_short (start (read k)).args.text.now (zeros 580) k.n-1.given.0.0 (length-answered k), (read k).read.auto.1.0)
+short : (k : goal.In-Length-2) → k.in-Length.n ≤ length (read k).read.new.1.0
+short k = omega (arith, read_short (start (read k)).args.text.now (zeros 580) k.in-Length.n (length-answered k), (read k).read.auto.1.0)
 
-accepted : (k : goal.In-Length-2) → table_verdict (take k.n-1.given.0.0 (read k).read.new.1.0) ≡ Accepted
+accepted : (k : goal.In-Length-2) → table_verdict (take k.in-Length.n (read k).read.new.1.0) ≡ Accepted
 accepted k =
-    ap (λ (l : List ℕ). table_verdict (take k.n-1.given.0.0 l)) (read k).read.ensures.1
-    ∙ read_accepted (start (read k)).args.text.now (zeros 580) k.n-1.given.0.0 (length-answered k)
+    ap (λ (l : List ℕ). table_verdict (take k.in-Length.n l)) (read k).read.ensures.1
+    ∙ read_accepted (start (read k)).args.text.now (zeros 580) k.in-Length.n (length-answered k)
 
 pub write_refused-requires : goal.write_refused-requires
 write_refused-requires c =
@@ -60,22 +60,22 @@ pub report_table-requires : goal.report_table-requires
 report_table-requires c =
     let k = c.before.before.before in
     let s = start (read k) in
-    (accepted k, room_as s.args.out.now 0 _ _ (text-is (read k) _ c.n-1.given.1) (text_room s.args.text.now s.args.out.now s.pre))
+    (accepted k, room_as s.args.out.now 0 _ _ (text-is (read k) _ c.in-Length.is) (text_room s.args.text.now s.args.out.now s.pre))
 
 pub write_refused-requires-in-Refused : goal.write_refused-requires-in-Refused
 write_refused-requires-in-Refused c =
     let s = start k.before.before.before in
-    room_as s.args.out.now 0 _ _ (text-is k.before.before.before _ c.refusal-1.given.1) (text_room s.args.text.now s.args.out.now s.pre)
+    room_as s.args.out.now 0 _ _ (text-is k.before.before.before _ c.in-Refused.is) (text_room s.args.text.now s.args.out.now s.pre)
 
 pub returns-in-Length : goal.returns-in-Length
 returns-in-Length c =
     let k = c.before.before.before.before.before.before in
     let s = start (read k) in
     stored_front s.args.out.now (fit_text s.args.text.now) _ _ (text_room s.args.text.now s.args.out.now s.pre)
-    (stored_as _ _ _ _ _ _ (text-is (read k) _ c.n-1.given.1) c.report_table.ensures)
+    (stored_as _ _ _ _ _ _ (text-is (read k) _ c.in-Length.is) c.report_table.ensures)
 
 pub returns-in-Refused : goal.returns-in-Refused
 returns-in-Refused c =
     let s = start k.before.before.before in
     stored_front s.args.out.now (fit_text s.args.text.now) _ _ (text_room s.args.text.now s.args.out.now s.pre)
-    (stored_as _ _ _ _ _ _ (text-is k.before.before.before _ c.refusal-1.given.1) c.write_refused-in-Refused.ensures)
+    (stored_as _ _ _ _ _ _ (text-is k.before.before.before _ c.in-Refused.is) c.write_refused-in-Refused.ensures)

@@ -28,8 +28,7 @@ returns-in-Refused c =
     let a = c.args in
     let l = a.table.now in
     let first = c.check_states-first.ensures ∙ of_states l a.c c.requires.c_value c.states_part.result.now c.states_part.ensures in
-    let told = c.enum_told-1.given in
-    first ∙ sym (then_refused (states_verdict (table_of l).props (table_of l).states) _ told.0.0 (sym first ∙ told.1))
+    first ∙ sym (then_refused (states_verdict (table_of l).props (table_of l).states) _ c.in-Refused.field-0 (sym first ∙ c.in-Refused.is))
 
 pub returns-in-Refused-second : goal.returns-in-Refused-second
 returns-in-Refused-second c =
@@ -37,10 +36,9 @@ returns-in-Refused-second c =
     let l = a.table.now in
     let first = c.check_states-first.ensures ∙ of_states l a.c c.requires.c_value c.states_part.result.now c.states_part.ensures in
     let second = c.check_steps-second.ensures ∙ of_steps l a.c c.requires.c_value c.steps_part.result.now c.steps_part.ensures in
-    let told = c.enum_told-in-Refused-second-1.given in
     second
-    ∙ sym (then_refused (steps_verdict (length (table_of l).states) (table_of l).steps) (nodes_verdict (table_of l).props (table_of l).nodes) told.0.0 (sym second ∙ told.1))
-    ∙ sym (then_next (states_verdict (table_of l).props (table_of l).states) _ (sym first ∙ c.enum_told-in_default-1.given.1))
+    ∙ sym (then_refused (steps_verdict (length (table_of l).states) (table_of l).steps) (nodes_verdict (table_of l).props (table_of l).nodes) c.in-Refused-second.field-0 (sym second ∙ c.in-Refused-second.is))
+    ∙ sym (then_next (states_verdict (table_of l).props (table_of l).states) _ (sym first ∙ c.in_default.is))
 
 pub returns : goal.returns
 returns c =
@@ -50,5 +48,5 @@ returns c =
     let second = c.check_steps-second.ensures ∙ of_steps l a.c c.requires.c_value c.steps_part.result.now c.steps_part.ensures in
     let third = c.check_nodes.ensures ∙ of_nodes l a.c c.requires.c_value c.nodes_part.result.now c.nodes_part.ensures in
     third
-    ∙ sym (then_next (steps_verdict (length (table_of l).states) (table_of l).steps) (nodes_verdict (table_of l).props (table_of l).nodes) (sym second ∙ c.enum_told-in_default-second-1.given.1))
-    ∙ sym (then_next (states_verdict (table_of l).props (table_of l).states) _ (sym first ∙ c.enum_told-in_default-1.given.1))
+    ∙ sym (then_next (steps_verdict (length (table_of l).states) (table_of l).steps) (nodes_verdict (table_of l).props (table_of l).nodes) (sym second ∙ c.in_default-second.is))
+    ∙ sym (then_next (states_verdict (table_of l).props (table_of l).states) _ (sym first ∙ c.in_default.is))

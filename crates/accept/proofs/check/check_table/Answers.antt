@@ -3,7 +3,7 @@ use mathlib.Core.Path.{◌≡◌, sym, ap, ◌∙◌}
 use mathlib.Core.Bool.{true, false}
 use Prim.Native.Nat.{ℕ}
 use native.Mathlib.Omega.{arith}
-use borrow.Author.Tests.{lt-leb, le-leb, eq-eqb, ne_eqb, not-true, not-false}
+use borrow.Author.Tests.{lt-leb, le-leb, eq-eqb, ne_eqb}
 use lib.Dec.{eqb}
 use lib.ListN.{length}
 use Rattle.table.specs.Table.{counts_of, packed_length}
@@ -21,12 +21,12 @@ pub returns-then-not-counts_fit : goal.returns-then-not-counts_fit
 unfolding table_verdict
 returns-then-not-counts_fit c =
     let l = c.args.table.now in
-    let out : counts_fit (counts_of l) ≡ false = ap counts_fit (sym c.counts_of-c.ensures) ∙ sym c.counts_fit.ensures ∙ not-true _ c.if-not-counts_fit.true in
+    let out : counts_fit (counts_of l) ≡ false = ap counts_fit (sym c.counts_of-c.ensures) ∙ sym c.counts_fit.ensures ∙ c.if-not-counts_fit.true in
     simp (le-leb 4 (length l) (omega arith), out)
 
 pub packed_length-requires : goal.packed_length-requires
 packed_length-requires c =
-    let w = counts_within c.counts_of-c.result (sym c.counts_fit.ensures ∙ not-false _ c.if-not-counts_fit.false) in
+    let w = counts_within c.counts_of-c.result (sym c.counts_fit.ensures ∙ c.if-not-counts_fit.false) in
     (omega arith, (omega arith, omega arith))
 
 pub returns-then-table-packed_length : goal.returns-then-table-packed_length
@@ -34,13 +34,13 @@ unfolding table_verdict
 returns-then-table-packed_length c =
     let l = c.args.table.now in
     let k = c.counts_of-c.ensures in
-    let fit : counts_fit (counts_of l) ≡ true = ap counts_fit (sym k) ∙ sym c.counts_fit.ensures ∙ not-false _ c.if-not-counts_fit.false in
+    let fit : counts_fit (counts_of l) ≡ true = ap counts_fit (sym k) ∙ sym c.counts_fit.ensures ∙ c.if-not-counts_fit.false in
     let off : eqb (length l) (packed_length (counts_of l)) ≡ false = ap (λ (n : ℕ). eqb (length l) n) (ap packed_length (sym k) ∙ sym c.packed_length.ensures) ∙ ne_eqb (length l) c.packed_length.result c.if-table-packed_length.true in
     simp (le-leb 4 (length l) (omega arith), fit, off)
 
 pub check_sections-requires : goal.check_sections-requires
 check_sections-requires c =
-    let w = counts_within c.counts_of-c.result (sym c.counts_fit.ensures ∙ not-false _ c.if-not-counts_fit.false) in
+    let w = counts_within c.counts_of-c.result (sym c.counts_fit.ensures ∙ c.if-not-counts_fit.false) in
     (c.counts_of-c.ensures, (w.few_states, w.few_props))
 
 pub returns : goal.returns
@@ -48,6 +48,6 @@ unfolding table_verdict
 returns c =
     let l = c.args.table.now in
     let k = c.counts_of-c.ensures in
-    let fit : counts_fit (counts_of l) ≡ true = ap counts_fit (sym k) ∙ sym c.counts_fit.ensures ∙ not-false _ c.if-not-counts_fit.false in
+    let fit : counts_fit (counts_of l) ≡ true = ap counts_fit (sym k) ∙ sym c.counts_fit.ensures ∙ c.if-not-counts_fit.false in
     let same : eqb (length l) (packed_length (counts_of l)) ≡ true = ap (λ (n : ℕ). eqb (length l) n) (ap packed_length (sym k) ∙ sym c.packed_length.ensures) ∙ eq-eqb (length l) c.packed_length.result c.if-table-packed_length.false in
     simp (le-leb 4 (length l) (omega arith), fit, same) c.check_sections.ensures

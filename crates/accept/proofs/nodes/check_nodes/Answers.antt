@@ -1,6 +1,5 @@
 -- `check_nodes` meets its contract. The loop's invariant: the whole section fits exactly when the records from i on do.
 use mathlib.Core.Bool.{Bool, true, false, ◌&&◌}
-use borrow.Author.Tests.{not-true, not-false}
 use Rattle.table.specs.declared.record.Node.{Node}
 use Rattle.table.specs.declared.shape.Shape.{Shape}
 use Rattle.table.specs.declared.refusal.Refusal.TheVariants.{NodeRecord}
@@ -28,7 +27,7 @@ returns-then-not-fields_fit c =
     let i = c.loop-i.i in
     let x = c.node_at-x.result in
     let fails : node_fits a.p i x ≡ false =
-    sym (tested a.p i x c.shape_of.result c.shape_of.ensures c.fields_fit.result c.fields_fit.ensures) ∙ not-true _ c.if-not-fields_fit.true in
+    sym (tested a.p i x c.shape_of.result c.shape_of.ensures c.fields_fit.result c.fields_fit.ensures) ∙ c.if-not-fields_fit.true in
     let whole = c.loop-i.invariant.1 ∙ record_nodes a.p node_of node_width a.f a.section.now i c.loop-i-test.true x c.node_at-x.ensures ∙ ap (λ (b : Bool). b && nodes_fit a.p (i + 1) (drop (i + 1) (records node_of node_width a.f a.section.now))) fails in
     ap (require NodeRecord) (sym whole)
 
@@ -41,7 +40,7 @@ loop-i-preserved c =
     let i = c.loop-i.i in
     let x = c.node_at-x.result in
     let fits : node_fits a.p i x ≡ true =
-    sym (tested a.p i x c.shape_of.result c.shape_of.ensures c.fields_fit.result c.fields_fit.ensures) ∙ not-false _ c.if-not-fields_fit.false in
+    sym (tested a.p i x c.shape_of.result c.shape_of.ensures c.fields_fit.result c.fields_fit.ensures) ∙ c.if-not-fields_fit.false in
     (omega arith, c.loop-i.invariant.1 ∙ record_nodes a.p node_of node_width a.f a.section.now i c.loop-i-test.true x c.node_at-x.ensures ∙ ap (λ (b : Bool). b && nodes_fit a.p (i + 1) (drop (i + 1) (records node_of node_width a.f a.section.now))) fits)
 
 pub returns : goal.returns

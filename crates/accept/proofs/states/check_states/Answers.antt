@@ -1,7 +1,6 @@
 -- `check_states` meets its contract. The loop's invariant: the records before i fit, and what was found says whether one of them is initial.
 use mathlib.Core.Bool.{Bool, true, false, ◌&&◌, ◌||◌}
 use mathlib.Core.Logic.{⊎_elim}
-use borrow.Author.Tests.{not-true, not-false}
 use Rattle.table.specs.declared.refusal.Refusal.TheVariants.{StateRecord, NoInitial}
 use Rattle.table.specs.Verdict.{require, ◌then◌}
 use Prim.Native.Nat.{◌+◌, zero-le}
@@ -23,7 +22,7 @@ returns-then-not-state_fits c =
     let i = c.loop-i.i in
     let x = c.state_at-s.result in
     let xs = records state_of state_width a.n a.section.now in
-    let fails : state_fits a.p x ≡ false = sym c.state_fits.ensures ∙ not-true _ c.if-not-state_fits.true in
+    let fails : state_fits a.p x ≡ false = sym c.state_fits.ensures ∙ c.if-not-state_fits.true in
     let whole : all (state_fits a.p) xs ≡ false = c.loop-i.invariant.1 ∙ record_all state_of state_width a.n a.section.now i c.loop-i-test.true x c.state_at-s.ensures (state_fits a.p) ∙ ap (λ (b : Bool). b && all (state_fits a.p) (drop (i + 1) xs)) fails in
     ap (λ (b : Bool). require StateRecord b then require NoInitial (any is_initial xs)) (sym whole)
 
@@ -38,7 +37,7 @@ loop-i-preserved c =
     let xs = records state_of state_width a.n a.section.now in
     let h = c.loop-i-test.true in
     let here = c.state_at-s.ensures in
-    let fits : state_fits a.p x ≡ true = sym c.state_fits.ensures ∙ not-false _ c.if-not-state_fits.false in
+    let fits : state_fits a.p x ≡ true = sym c.state_fits.ensures ∙ c.if-not-state_fits.false in
     let rest = any is_initial (drop (i + 1) xs) in
     let inv = c.loop-i.invariant.2 in
     let found : any is_initial xs ≡ c.if-found.found || rest =

@@ -20,16 +20,16 @@ overflow_add-result-in-12-2 c =
     omega (arith, levels_most c.args.n c.args.e c.requires.0 c.requires.1 2 (omega arith))
 
 pub returns-in-6 : goal.returns-in-6
-returns-in-6 c = c.args in λ x y. cost_next a.n a.e x y a.kind (omega arith) (omega arith)
+returns-in-6 c = let a = c.args in λ x y. cost_next a.n a.e x y a.kind (omega arith) (omega arith)
 
 pub returns-in-8 : goal.returns-in-8
-returns-in-8 c = c.args in λ x y. cost_binary a.n a.e x y a.kind (omega arith) (omega arith)
+returns-in-8 c = let a = c.args in λ x y. cost_binary a.n a.e x y a.kind (omega arith) (omega arith)
 
 pub returns-in-12 : goal.returns-in-12
-returns-in-12 c = c.args in λ x y. cost_unary a.n a.e x y a.kind (omega arith) (omega arith)
+returns-in-12 c = let a = c.args in λ x y. cost_unary a.n a.e x y a.kind (omega arith) (omega arith)
 
 pub returns-in_default : goal.returns-in_default
-returns-in_default c = c.args in λ x y. cost_plain a.n a.e x y a.kind (omega arith)
+returns-in_default c = let a = c.args in λ x y. cost_plain a.n a.e x y a.kind (omega arith)
 
 pub returns-in_default-2 : goal.returns-in_default-2
-returns-in_default-2 c = c.args in λ x y. cost_unknown a.n a.e x y a.kind (omega arith)
+returns-in_default-2 c = let a = c.args in λ x y. cost_unknown a.n a.e x y a.kind (omega arith)

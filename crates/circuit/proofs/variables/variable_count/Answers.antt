@@ -50,12 +50,12 @@ small c =
 
 pub overflow_add-sum : goal.overflow_add-sum
 overflow_add-sum c =
-    let b = bytes c.args.table.now (λ j. omega (arith, c.shared_slice_known-1.given j)) c.counts_of-c.result c.counts_of-c.ensures in
+    let b = bytes c.args.table.now (λ j. omega (arith, c.type_inv.table j)) c.counts_of-c.result c.counts_of-c.ensures in
     omega arith
 
 pub loop-i-init : goal.loop-i-init
 loop-i-init c =
-    let b = bytes c.args.table.now (λ j. omega (arith, c.shared_slice_known-1.given j)) c.counts_of-c.result c.counts_of-c.ensures in
+    let b = bytes c.args.table.now (λ j. omega (arith, c.type_inv.table j)) c.counts_of-c.result c.counts_of-c.ensures in
     (b, omega arith, omega arith, refl)
 
 pub node_cost-sum-requires : goal.node_cost-sum-requires

@@ -33,7 +33,7 @@ now-looked c =
     (among_next c.args.down c.args.net.nodes l.k c.if-down.i (turn c.before.before.before.before.before.before.before.before) l.invariant.3 v.ensures)
 
 pub loop-k-init : goal.loop-k-init
-loop-k-init c = c.before.before.before.before.before.before.before in (zero-le, refl, refl, among_none (table_of s.args.table.now) s.args.down s.args.net.nodes _ _ s.requires.1.0)
+loop-k-init c = (zero-le, refl, refl, among_none (table_of c.args.table.now) c.args.down c.args.net.nodes _ _ c.requires.sized)
 
 pub overflow_sub-i : goal.overflow_sub-i
 overflow_sub-i c = omega arith

@@ -53,7 +53,7 @@ loop-net-init c =
     )
 
 pub sweep_once-r-requires : goal.sweep_once-r-requires
-sweep_once-r-requires c = c.loop-net in (c.requires.setting, (l.invariant.0.sized, l.invariant.1))
+sweep_once-r-requires c = let l = c.loop-net in (c.requires.setting, (l.invariant.0.sized, l.invariant.1))
 
 pub returns-then-r : goal.returns-then-r
 returns-then-r c = (

@@ -31,7 +31,7 @@ starts-looked c =
     (looked_so (λ f k e. inl e) (λ z. z.1) (looked_then first (v.ensures c.args.words.now first.advance.sized)))
 
 pub kept_visit-first-requires : goal.kept_visit-first-requires
-kept_visit-first-requires c = c.requires in (p.0, (p.1.0.rows_size, p.1.1))
+kept_visit-first-requires c = let p = c.requires in (p.setting, (p.sized.rows_size, p.looks_len))
 
 pub returns-then-first : goal.returns-then-first
 returns-then-first c = looked_failed c.if-first.true (kept-looked c.before.before.before.before.before)

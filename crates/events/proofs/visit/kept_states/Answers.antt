@@ -37,7 +37,7 @@ pub loop-left-init : goal.loop-left-init
 loop-left-init c = (left_first _ c.ranges.look.fits, refl, kept_first _ _ _)
 
 pub kept_step-requires : goal.kept_step-requires
-kept_step-requires c = c.requires in (low c.before, (p.0.targets_size, c.loop-left.invariant.1 ∙ p.1.0))
+kept_step-requires c = let p = c.requires in (low c.before, (p.setting.targets_size, c.loop-left.invariant.1 ∙ p.rows_len.0))
 
 pub returns-then-report : goal.returns-then-report
 returns-then-report c = λ w sized. kept_failed _ _ _ _ _ _ c.if-report.true ((further c.before).1 w sized)

@@ -38,10 +38,10 @@ returns-then-is_quiet c =
     (c.kept_states-report.ensures w sized) (sym c.is_quiet.ensures ∙ c.if-is_quiet.true)
 
 pub mark_kept-requires : goal.mark_kept-requires
-mark_kept-requires c = c.requires in (p.0.reads.size, p.1.1)
+mark_kept-requires c = let p = c.requires in (p.setting.reads.size, p.rows_len.1)
 
 pub mark_steps-requires : goal.mark_steps-requires
-mark_steps-requires c = c.requires in (p.0.reads.size, c.mark_kept.ensures.raised.same_length ∙ p.1.1)
+mark_steps-requires c = let p = c.requires in (p.setting.reads.size, c.mark_kept.ensures.raised.same_length ∙ p.rows_len.1)
 
 pub returns : goal.returns
 returns c =

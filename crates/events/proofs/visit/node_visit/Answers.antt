@@ -63,7 +63,7 @@ pub bounds-looks-i : goal.bounds-looks-i
 bounds-looks-i c = omega (arith, low c.before.before.before.before.before.before.before.before, c.requires.looks_len.0)
 
 pub returns-then-word-eq0 : goal.returns-then-word-eq0
-returns-then-word-eq0 c = c.before.before.before.before.before.before.before.before.before in visit_none (table_of s.args.table.now) (memory s.args.rows.now s.args.words.now) s.requires.1.0 s.args.looks.now s.args.i c.if-word-eq0.true
+returns-then-word-eq0 c = visit_none (table_of c.args.table.now) (memory c.args.rows.now c.args.words.now) c.requires.sized c.args.looks.now c.args.i c.if-word-eq0.true
 
 pub node_row-old-requires : goal.node_row-old-requires
 node_row-old-requires c = (low c.before.before.before.before.before.before.before.before.before.before.before.before.before.before, c.requires.sized.rows_size)

@@ -14,10 +14,10 @@ pub overflow_sub-root : goal.overflow_sub-root
 overflow_sub-root c = some_node c.requires.setting
 
 pub node_row-old_root-requires : goal.node_row-old_root-requires
-node_row-old_root-requires c = c.requires in (omega (arith, some_node p.0, few_nodes p.0), p.1.0)
+node_row-old_root-requires c = let p = c.requires in (omega (arith, some_node p.setting, few_nodes p.setting), p.rows_len.0)
 
 pub start_step-report-requires : goal.start_step-report-requires
-start_step-report-requires c = c.requires in (omega (arith, some_node p.0, few_nodes p.0), p.1.0)
+start_step-report-requires c = let p = c.requires in (omega (arith, some_node p.setting, few_nodes p.setting), p.rows_len.0)
 
 pub returns-then-is_quiet : goal.returns-then-is_quiet
 returns-then-is_quiet c =
@@ -28,7 +28,7 @@ returns-then-is_quiet c =
     (sym c.is_quiet.ensures ∙ c.if-is_quiet.true)
 
 pub mark_kept-requires : goal.mark_kept-requires
-mark_kept-requires c = c.requires in (p.0.reads.size, p.1.1)
+mark_kept-requires c = let p = c.requires in (p.setting.reads.size, p.rows_len.1)
 
 pub note_node-requires : goal.note_node-requires
 note_node-requires c =

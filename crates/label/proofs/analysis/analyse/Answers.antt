@@ -3,7 +3,7 @@ use Prim.Native.Nat.{ℕ}
 use mathlib.Core.Path.{◌≡◌, sym, ap, ◌∙◌}
 use mathlib.Core.Bool.{Bool}
 use mathlib.Core.List.{List}
-use borrow.Author.Tests.{not-true, not-false, eqb-true}
+use borrow.Author.Tests.{eqb-true}
 use lib.ListN.{length}
 use Rattle.table.specs.declared.counts.Counts.{Counts}
 use Rattle.table.specs.declared.refusal.Refusal.TheVariants.{ShortBuffer, ListForm}
@@ -34,7 +34,7 @@ list_length m list e = eqb-true (length list) m (and_parts _ _ (require_accepted
 
 -- the table passed its tests
 table-passed : (c : goal.In_default) → table_verdict c.args.table.now ≡ Accepted
-table-passed c = sym c.check_table-first.ensures ∙ c.enum_told-1.given.1
+table-passed c = sym c.check_table-first.ensures ∙ c.in_default.is
 
 -- and the list is of the form
 list-passed : (c : goal.In_default-second)
@@ -43,16 +43,16 @@ list-passed : (c : goal.In_default-second)
 list-passed c =
     let k = c.counts_of-c in
     let v = c.check_list-second in
-    sym (list_is c.args.table.now k.result k.ensures c.args.list.now v.result v.ensures) ∙ c.enum_told-in_default-second-1.given.1
+    sym (list_is c.args.table.now k.result k.ensures c.args.list.now v.result v.ensures) ∙ c.in_default-second.is
 
 pub returns-in-Refused : goal.returns-in-Refused
 returns-in-Refused c =
     let a = c.args in
     let t = a.table.now in
     let l = a.list.now in
-    let r = c.first-1.given.0.0 in
+    let r = c.in-Refused.refusal in
     refused_analysis (analysis_verdict a.room t l) r (table_of t) l c.refused.result
-    (table_refused a.room t l r (sym c.check_table-first.ensures ∙ c.first-1.given.1)) c.refused.ensures
+    (table_refused a.room t l r (sym c.check_table-first.ensures ∙ c.in-Refused.is)) c.refused.ensures
 
 pub returns-in-Refused-second : goal.returns-in-Refused-second
 returns-in-Refused-second c =
@@ -61,10 +61,10 @@ returns-in-Refused-second c =
     let l = a.list.now in
     let k = c.counts_of-c in
     let v = c.check_list-second in
-    let r = c.second-1.given.0.0 in
+    let r = c.in-Refused-second.refusal in
     refused_analysis (analysis_verdict a.room t l) r (table_of t) l c.refused-in-Refused-second.result
     (list_refused a.room t l (table-passed c.before.before.before.before.before.before) r
-    (sym (list_is t k.result k.ensures l v.result v.ensures) ∙ c.second-1.given.1)) c.refused-in-Refused-second.ensures
+    (sym (list_is t k.result k.ensures l v.result v.ensures) ∙ c.in-Refused-second.is)) c.refused-in-Refused-second.ensures
 
 pub returns-then-not-room_fits : goal.returns-then-not-room_fits
 returns-then-not-room_fits c =
@@ -72,7 +72,7 @@ returns-then-not-room_fits c =
     let t = a.table.now in
     let l = a.list.now in
     let k = c.counts_of-c in
-    let short = sym (room_is t k.result k.ensures a.room c.room_fits.result c.room_fits.ensures) ∙ not-true _ c.if-not-room_fits.true in
+    let short = sym (room_is t k.result k.ensures a.room c.room_fits.result c.room_fits.ensures) ∙ c.if-not-room_fits.true in
     refused_analysis (analysis_verdict a.room t l) ShortBuffer (table_of t) l c.refused-then-not-room_fits.result
     (room_refused a.room t l (table-passed c.before.before.before.before.before.before.before) (list-passed c.before.before.before) short) c.refused-then-not-room_fits.ensures
 
@@ -90,6 +90,6 @@ returns c =
     let t = a.table.now in
     let l = a.list.now in
     let k = c.counts_of-c in
-    let fits = sym (room_is t k.result k.ensures a.room c.room_fits.result c.room_fits.ensures) ∙ not-false _ c.if-not-room_fits.false in
+    let fits = sym (room_is t k.result k.ensures a.room c.room_fits.result c.room_fits.ensures) ∙ c.if-not-room_fits.false in
     c.analysed.ensures
     ∙ sym (ap (λ (v : Verdict). analysis_at v (table_of t) l) (room_passed a.room t l (table-passed c.before.before.before.before.before.before.before) (list-passed c.before.before.before) fits))

@@ -4,7 +4,6 @@ use mathlib.Core.Path.{◌≡◌, sym, ap, ◌∙◌}
 use mathlib.Core.Bool.{Bool, true, false}
 use mathlib.Core.List.{List}
 use native.Mathlib.Omega.{arith}
-use borrow.Author.Tests.{not-true, not-false}
 use lib.ListN.{length, get_or, replicate}
 use Rattle.table.specs.declared.refusal.Refusal.TheVariants.{NotTotal}
 use Rattle.table.specs.declared.refusal.Verdict.TheVariants.{Accepted}
@@ -75,7 +74,7 @@ returns-then-not-is_total c =
     let l = a.list.now in
     let total : is_total (table_of t) l ≡ false =
     sym (total-is t l c.requires.table_value a.n c.requires.n_value.0 c.kept_rows-rows.result c.kept_rows-rows.ensures c.kept_states-kept.result c.kept_states-kept.ensures c.is_total.result c.is_total.ensures)
-    ∙ not-true _ c.if-not-is_total.true in
+    ∙ c.if-not-is_total.true in
     refused_analysis (require NotTotal (is_total (table_of t) l)) NotTotal (table_of t) l c.refused.result (ap (require NotTotal) total) c.refused.ensures
 
 pub initial_states-requires : goal.initial_states-requires
@@ -100,7 +99,7 @@ returns c =
     let k = c.kept_states-kept.result in
     let e = c.kept_states-kept.ensures in
     let total : is_total (table_of t) l ≡ true =
-    sym (total-is t l ok a.n n rows r k e c.is_total.result c.is_total.ensures) ∙ not-false _ c.if-not-is_total.false in
+    sym (total-is t l ok a.n n rows r k e c.is_total.result c.is_total.ensures) ∙ c.if-not-is_total.false in
     let words = words_are t l ok a.n n rows r k e c.label_pass-words.result c.label_pass-words.ensures in
     (λ j. record {
       verdict = Accepted;

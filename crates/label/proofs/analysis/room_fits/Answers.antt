@@ -5,7 +5,7 @@ use Rattle.label.specs.Analysis.{room_for}
 use Rattle.label.proofs.analysis.room_fits.Goals as goal
 
 pub returns-in-Nodes : goal.returns-in-Nodes
-returns-in-Nodes c = sym (ap (λ (r : Room). room_for r c.args.n c.args.f) c.room-1.given.1)
+returns-in-Nodes c = sym (ap (λ (r : Room). room_for r c.args.n c.args.f) c.in-Nodes.is)
 
 pub returns-in-States : goal.returns-in-States
-returns-in-States c = sym (ap (λ (r : Room). room_for r c.args.n c.args.f) c.room-in-States-1.given.1)
+returns-in-States c = sym (ap (λ (r : Room). room_for r c.args.n c.args.f) c.in-States.is)

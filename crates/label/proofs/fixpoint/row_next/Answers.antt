@@ -3,10 +3,10 @@ use borrow.Author.Tests.{eq-eqb, ne_eqb}
 use Rattle.label.proofs.fixpoint.row_next.Goals as goal
 
 pub returns-then-row-eq0 : goal.returns-then-row-eq0
-returns-then-row-eq0 c = simp (c.enum_told-1.given.1, eq-eqb _ _ c.if-row-eq0.true)
+returns-then-row-eq0 c = simp (c.in-Every.is, eq-eqb _ _ c.if-row-eq0.true)
 
 pub returns-else-row-eq0 : goal.returns-else-row-eq0
-returns-else-row-eq0 c = simp (c.enum_told-1.given.1, ne_eqb _ _ c.if-row-eq0.false)
+returns-else-row-eq0 c = simp (c.in-Every.is, ne_eqb _ _ c.if-row-eq0.false)
 
 pub returns-in-Some : goal.returns-in-Some
-returns-in-Some c = simp c.enum_told-in-Some-1.given.1
+returns-in-Some c = simp c.in-Some.is

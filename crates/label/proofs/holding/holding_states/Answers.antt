@@ -53,7 +53,7 @@ returns c =
     let n = length out in
     let A = c.analyse-a.result in
     let E = c.analyse-a.ensures in
-    let ok = c.enum_told-1.given.1 in
+    let ok = c.in_default.is in
     let v = sym (verdict_is (States n) t l A E) ∙ ok in
     let root = root_is (States n) t l A E ok in (
       ap Count (c.count.ensures ∙ count_is t l n A E ok A.root root) ∙ sym (ap (λ (x : Verdict). holding_at x (length (held_states (table_of t) l))) v),
@@ -69,7 +69,7 @@ returns-in-Refused c =
     let l = a.list.now in
     let out = a.out.now in
     let v = verdict_is (States (length out)) t l c.analyse-a.result c.analyse-a.ensures in
-    let refused = sym v ∙ c.verdict-1.given.1 in (
+    let refused = sym v ∙ c.in-Refused.is in (
       sym (ap (λ (w : Verdict). holding_at w (length (held_states (table_of t) l))) refused),
       sym (ap (λ (w : Verdict). on_accepted w (held_states (table_of t) l ++ drop (length (held_states (table_of t) l)) out) out) refused),
     )
@@ -82,5 +82,5 @@ write_states-requires c =
     let n = length a.out.now in
     let A = c.analyse-a.result in
     let E = c.analyse-a.ensures in
-    let ok = c.enum_told-1.given.1 in
+    let ok = c.in_default.is in
     rw (states_are t l n A E ok A.initial A.root (initial_is (States n) t l A E ok) (root_is (States n) t l A E ok)) (room_for t l n A E ok)

@@ -68,10 +68,10 @@ pub write_ascending-requires : goal.write_ascending-requires
 write_ascending-requires c = omega (arith, (parts c.before).fit)
 
 pub slice_bounds-write_ascending-count : goal.slice_bounds-write_ascending-count
-slice_bounds-write_ascending-count c = c.write_ascending in first_fits (parts c.before.before.before.before) w.new.1.0 w.ensures
+slice_bounds-write_ascending-count c = let w = c.write_ascending in first_fits (parts c.before.before.before.before) w.new.out.1.0 w.ensures
 
 pub write_ascending-requires-2 : goal.write_ascending-requires-2
-write_ascending-requires-2 c = c.write_ascending in others_fit (parts c.before.before.before.before.before) w.new.1.0 w.ensures
+write_ascending-requires-2 c = let w = c.write_ascending in others_fit (parts c.before.before.before.before.before) w.new.out.1.0 w.ensures
 
 pub returns : goal.returns
 returns c =

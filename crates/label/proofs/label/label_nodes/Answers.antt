@@ -41,14 +41,14 @@ returns-in-Refused c =
     let l = a.list.now in
     let out = a.out.now in
     let v = verdict_is (Nodes (length out)) t l c.analyse-a.result c.analyse-a.ensures in
-    (v, sym (ap (λ (w : Verdict). on_accepted w (over (length (table_of t).nodes) (label_words (table_of t) l) out) out) (sym v ∙ c.enum_told-1.given.1)))
+    (v, sym (ap (λ (w : Verdict). on_accepted w (over (length (table_of t).nodes) (label_words (table_of t) l) out) out) (sym v ∙ c.in-Refused.is)))
 
 pub write_words-requires : goal.write_words-requires
 write_words-requires c =
     let a = c.args in
     let t = a.table.now in
     let l = a.list.now in
-    let ok = c.enum_told-in_default-1.given.1 in (
+    let ok = c.in_default.is in (
       fits t l (length a.out.now) c.analyse-a.result c.analyse-a.ensures ok c.counts_of-c.result c.counts_of-c.ensures,
       words_length t l (length a.out.now) c.analyse-a.result c.analyse-a.ensures ok,
     )
@@ -61,7 +61,7 @@ returns c =
     let out = a.out.now in
     let A = c.analyse-a.result in
     let E = c.analyse-a.ensures in
-    let ok = c.enum_told-in_default-1.given.1 in
+    let ok = c.in_default.is in
     let v = verdict_is (Nodes (length out)) t l A E in (
       v,
       c.write_words.ensures

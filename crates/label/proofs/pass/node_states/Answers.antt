@@ -27,7 +27,7 @@ bounds-words-right c =
 
 pub returns-in-1 : goal.returns-in-1
 unfolding node_word
-returns-in-1 c = c.before.before.before.before.before in sym (ap (word_of start) (of_kind start.args.x 1 c.in-1.keys1))
+returns-in-1 c = let start = c.before.before.before.before.before in sym (ap (word_of start) (of_kind c.args.x 1 c.in-1.keys1))
 
 pub returns-in-2 : goal.returns-in-2
 unfolding node_word
@@ -37,7 +37,7 @@ returns-in-2 c =
 
 pub returns-in-3 : goal.returns-in-3
 unfolding node_word
-returns-in-3 c = c.before.before.before.before.before in sym (ap (word_of start) (of_kind start.args.x 3 c.in-3.keys3))
+returns-in-3 c = let start = c.before.before.before.before.before in sym (ap (word_of start) (of_kind c.args.x 3 c.in-3.keys3))
 
 pub returns-in-4 : goal.returns-in-4
 unfolding node_word
@@ -78,8 +78,8 @@ returns-in-8 c =
 
 pub returns-in_default : goal.returns-in_default
 unfolding node_word
-returns-in_default c = c.before.before.before.before.before.before in sym (ap (word_of start) (of_kind start.args.x 0 (omega arith)))
+returns-in_default c = let start = c.before.before.before.before.before.before in sym (ap (word_of start) (of_kind c.args.x 0 (omega arith)))
 
 pub returns-in_default-2 : goal.returns-in_default-2
 unfolding node_word
-returns-in_default-2 c = c.before.before.before.before.before.before.before.before in sym (ap (word_of start) (past_kinds start.args.x (omega arith)))
+returns-in_default-2 c = let start = c.before.before.before.before.before.before.before.before in sym (ap (word_of start) (past_kinds c.args.x (omega arith)))

@@ -44,7 +44,7 @@ returns-then-is_none c =
     (quiet_after d.result)
 
 pub go_back-k-requires : goal.go_back-k-requires
-go_back-k-requires c = c.requires in (p.1.0, (p.1.1, c.add_node-first.auto.0 ∙ p.0.1.1))
+go_back-k-requires c = let p = c.requires in (p.n_bound.0, (p.n_bound.1, c.add_node-first.auto.0 ∙ p.i_bound.1.1))
 
 pub add_node-requires : goal.add_node-requires
 add_node-requires c =

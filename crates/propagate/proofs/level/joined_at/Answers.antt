@@ -11,7 +11,7 @@ use Rattle.propagate.specs.Level.{level_at}
 use Rattle.propagate.proofs.level.joined_at.Goals as goal
 
 pub node_row-requires-2 : goal.node_row-requires-2
-node_row-requires-2 c = c.requires in (p.0.b_below, p.0.rows_size)
+node_row-requires-2 c = let p = c.requires in (p.fits.b_below, p.fits.rows_size)
 
 pub returns : goal.returns
 returns c =

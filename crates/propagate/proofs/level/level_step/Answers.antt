@@ -8,7 +8,7 @@ use Rattle.propagate.proofs.Chain.{after, fits_on}
 use Rattle.propagate.proofs.level.level_step.Goals as goal
 
 pub add_joined-first-requires : goal.add_joined-first-requires
-add_joined-first-requires c = c.requires in (p.0, (p.1.0, p.1.1.0))
+add_joined-first-requires c = let p = c.requires in (p.fits, (p.m_lt_n.0, p.m_lt_n.1.0))
 
 pub level_back-requires : goal.level_back-requires
 level_back-requires c =

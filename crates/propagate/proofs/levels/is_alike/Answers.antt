@@ -16,10 +16,10 @@ third : (a b c : Bool) → a ≡ true → b ≡ true → c ≡ a && (b && c)
 third a b c e f = simp (e, f)
 
 pub returns-then-not-seen : goal.returns-then-not-seen
-returns-then-not-seen c = c.args in first a.seen.quiet (same_row a.seen.level a.level) (same_row a.seen.below a.below) (not-true _ c.if-not-seen.true)
+returns-then-not-seen c = let a = c.args in first a.seen.quiet (same_row a.seen.level a.level) (same_row a.seen.below a.below) (not-true _ c.if-not-seen.true)
 
 pub returns-then-not-is_same : goal.returns-then-not-is_same
-returns-then-not-is_same c = c.args in second a.seen.quiet (same_row a.seen.level a.level) (same_row a.seen.below a.below) (not-false _ c.if-not-seen.false) (sym c.is_same.ensures ∙ not-true _ c.if-not-is_same.true)
+returns-then-not-is_same c = let a = c.args in second a.seen.quiet (same_row a.seen.level a.level) (same_row a.seen.below a.below) (not-false _ c.if-not-seen.false) (sym c.is_same.ensures ∙ c.if-not-is_same.true)
 
 pub returns : goal.returns
-returns c = c.args in c.is_same-2.ensures ∙ third a.seen.quiet (same_row a.seen.level a.level) (same_row a.seen.below a.below) (not-false _ c.if-not-seen.false) (sym c.is_same.ensures ∙ not-false _ c.if-not-is_same.false)
+returns c = let a = c.args in c.is_same-2.ensures ∙ third a.seen.quiet (same_row a.seen.level a.level) (same_row a.seen.below a.below) (not-false _ c.if-not-seen.false) (sym c.is_same.ensures ∙ c.if-not-is_same.false)

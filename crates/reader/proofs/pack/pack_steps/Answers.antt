@@ -18,14 +18,13 @@ pub returns-in_default : goal.returns-in_default
 returns-in_default c =
     let l = c.args.text.now in
     let i = c.loop-left in
-    stored_broken step_parser pack_step i.packed i.to i.left (drop i.place l) (sym c.read_step.ensures ∙ ap (step_read l) c.enum_told-1.given.1) ∙ i.invariant.2
+    stored_broken step_parser pack_step i.packed i.to i.left (drop i.place l) (sym c.read_step.ensures ∙ ap (step_read l) c.in_default.is) ∙ i.invariant.2
 
 pub put_step-requires : goal.put_step-requires
 put_step-requires c =
     let l = c.args.text.now in
-    let v = c.x-1.given in
-    let e : step_parser (drop c.loop-left.place l) ≡ got v.0.0 (drop v.0.1.0 l) = sym c.read_step.ensures ∙ ap (step_read l) v.1 in
-    (omega arith, (step_exact.sound (drop c.loop-left.place l) v.0.0 (drop v.0.1.0 l) e).0)
+    let e : step_parser (drop c.loop-left.place l) ≡ got c.in-Values.x (drop c.in-Values.next l) = sym c.read_step.ensures ∙ ap (step_read l) c.in-Values.is in
+    (omega arith, (step_exact.sound (drop c.loop-left.place l) c.in-Values.x (drop c.in-Values.next l) e).0)
 
 pub overflow_add-to : goal.overflow_add-to
 overflow_add-to c = omega arith
@@ -40,12 +39,11 @@ pub loop-left-preserved : goal.loop-left-preserved
 loop-left-preserved c =
     let l = c.args.text.now in
     let i = c.loop-left in
-    let v = c.x-1.given in
-    let e : step_parser (drop i.place l) ≡ got v.0.0 (drop v.0.1.0 l) = sym c.read_step.ensures ∙ ap (step_read l) v.1 in
+    let e : step_parser (drop i.place l) ≡ got c.in-Values.x (drop c.in-Values.next l) = sym c.read_step.ensures ∙ ap (step_read l) c.in-Values.is in
     let stored = c.put_step.ensures in (
-      ap length stored ∙ length-sets i.packed i.to (pack_step v.0.0) ∙ i.invariant.0,
+      ap length stored ∙ length-sets i.packed i.to (pack_step c.in-Values.x) ∙ i.invariant.0,
       omega arith,
-      stored_next step_parser pack_step i.packed i.to i.left (drop i.place l) c.loop-left-test.true v.0.0 (drop v.0.1.0 l) e _ stored ∙ i.invariant.2,
+      stored_next step_parser pack_step i.packed i.to i.left (drop i.place l) c.loop-left-test.true c.in-Values.x (drop c.in-Values.next l) e _ stored ∙ i.invariant.2,
     )
 
 pub returns : goal.returns

@@ -20,10 +20,10 @@ use Rattle.reader.proofs.reader.read.Goals as goal
 
 -- the sheet that the form pass found, and that it is the text's
 abbrev found : goal.In-Sheet-2 → Sheet
-found c = let v = c.counts-1.given.0 in sheet_at c.args.text.now v.0 v.1.0 v.1.1.0 v.1.1.1.0
+found c = sheet_at c.args.text.now c.in-Sheet.counts c.in-Sheet.states c.in-Sheet.steps c.in-Sheet.nodes
 
 parsed : (c : goal.In-Sheet-2) → parse c.args.text.now ≡ some (found c)
-parsed c = sym c.check_form.ensures ∙ ap (form_read c.args.text.now) c.counts-1.given.1
+parsed c = sym c.check_form.ensures ∙ ap (form_read c.args.text.now) c.in-Sheet.is
 
 in_range : (c : goal.In-Sheet-2) → InRange (found c)
 in_range c = ((parse_exact c.args.text.now (found c)).0 (parsed c)).0
@@ -48,7 +48,7 @@ stored c =
 pub returns-in_default : goal.returns-in_default
 returns-in_default c =
     let a = c.args in
-    not_of_form a.text.now a.out.now (sym c.check_form.ensures ∙ ap (form_read a.text.now) c.enum_told-1.given.1)
+    not_of_form a.text.now a.out.now (sym c.check_form.ensures ∙ ap (form_read a.text.now) c.in_default.is)
 
 pub packed_length-length-requires : goal.packed_length-length-requires
 packed_length-length-requires c =
@@ -74,14 +74,14 @@ pub returns-in-Refused : goal.returns-in-Refused
 returns-in-Refused c =
     let a = c.args in
     let v = found c.before.before.before.before.before.before.before.before.before.before.before in
-    table_refused a.text.now a.out.now v (parsed c.before.before.before.before.before.before.before.before.before.before.before) _ (ap table_verdict (sym (stored c.before.before.before.before.before.before)) ∙ sym c.check_table.ensures ∙ c.refusal-1.given.1)
+    table_refused a.text.now a.out.now v (parsed c.before.before.before.before.before.before.before.before.before.before.before) _ (ap table_verdict (sym (stored c.before.before.before.before.before.before)) ∙ sym c.check_table.ensures ∙ c.in-Refused.is)
 
 pub returns-then-out-length : goal.returns-then-out-length
 returns-then-out-length c =
     let a = c.args in
     let v = found c.before.before.before.before.before.before.before.before.before.before.before in
     let n = len c.before.before.before.before.before.before.before.before.before in
-    too_short a.text.now a.out.now v (parsed c.before.before.before.before.before.before.before.before.before.before.before) (ap table_verdict (sym (stored c.before.before.before.before.before.before)) ∙ sym c.check_table.ensures ∙ c.enum_told-in_default-check_table-1.given.1) (omega arith)
+    too_short a.text.now a.out.now v (parsed c.before.before.before.before.before.before.before.before.before.before.before) (ap table_verdict (sym (stored c.before.before.before.before.before.before)) ∙ sym c.check_table.ensures ∙ c.in_default-check_table.is) (omega arith)
 
 pub slice_bounds-copy_front-end : goal.slice_bounds-copy_front-end
 slice_bounds-copy_front-end c = len c.before.before.before.before.before.before.before.before.before.before ∙ sym (ap length (stored c.before.before.before.before.before.before.before))
@@ -100,5 +100,5 @@ returns c =
     let s = stored c.before.before.before.before.before.before.before.before.before.before.before in
     let n = len c.before.before.before.before.before.before.before.before.before.before.before.before.before.before in
     let fits : length (pack v) ≤ length l = omega arith in
-    let o = accepted_read a.text.now l v (parsed c.before.before.before.before.before.before.before.before.before.before.before.before.before.before.before.before) (ap table_verdict (sym s) ∙ sym c.check_table.ensures ∙ c.enum_told-in_default-check_table-1.given.1) fits in
+    let o = accepted_read a.text.now l v (parsed c.before.before.before.before.before.before.before.before.before.before.before.before.before.before.before.before) (ap table_verdict (sym s) ∙ sym c.check_table.ensures ∙ c.in_default-check_table.is) fits in
     (ap Length n ∙ o.0, c.copy_front.ensures ∙ ap (λ (x : List ℕ). x ++ drop (length x) l) s ∙ o.1)

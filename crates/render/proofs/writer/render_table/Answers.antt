@@ -20,13 +20,13 @@ use Rattle.render.proofs.writer.render_table.Goals as goal
 
 -- the table was accepted, so its sheet is short
 accepted : (c : goal.In_default) → table_verdict c.args.table.now ≡ Accepted
-accepted c = sym c.check_table.ensures ∙ c.enum_told-1.given.1
+accepted c = sym c.check_table.ensures ∙ c.in_default.is
 
 short : (c : goal.In_default) → length (render (sheet_of c.args.table.now)) ≤ 2318
 short c =
     let l = c.args.table.now in
     let w = counts_within (counts_of l) (header_accepted l (accepted c)).0 in
-    sheet-length (sheet_of l) (sheet_range l (λ i. (c.shared_slice_known-1.given i).fits)) w.few_states w.few_steps w.few_nodes
+    sheet-length (sheet_of l) (sheet_range l (λ i. (c.type_inv.table i).fits)) w.few_states w.few_steps w.few_nodes
 
 -- the writer's own bytes at first
 abbrev zeros : List ℕ
@@ -47,7 +47,7 @@ stored c =
 pub returns-in-Refused : goal.returns-in-Refused
 returns-in-Refused c =
     let a = c.args in
-    not_accepted a.table.now a.out.now _ (sym c.check_table.ensures ∙ c.refusal-1.given.1)
+    not_accepted a.table.now a.out.now _ (sym c.check_table.ensures ∙ c.in-Refused.is)
 
 pub write_sheet-length-requires : goal.write_sheet-length-requires
 write_sheet-length-requires c = omega (arith, short c.before, length-replicate {A = ℕ} 2318 0)

@@ -116,7 +116,7 @@ returns-in-Found c =
     let gave = counts.before.before.before.before.before.before.before.before in
     let T = table_of c.args.table.now in
     let list = c.args.list.now in
-    let told = sym c.price-1.given.1 ∙ c.search_table.ensures.value in
+    let told = sym c.in-Found.is ∙ c.search_table.ensures.value in
     let struck = c.strike_unreached in
     (ap carried told, (after_found T list _ (search_under T c.args.cap) _ _ _ c.counts_of-counts.result.steps told c.search_table.ensures.list_after (steps_count counts) struck.new.list.1.1.0 struck.ensures, beyond gave))
 
@@ -125,7 +125,7 @@ returns-in-None c =
     let gave = c.before.before.before.before.before.before.before in
     let T = table_of c.args.table.now in
     let list = c.args.list.now in
-    let told = sym c.c-1.given.1 ∙ c.search_table.ensures.value in
+    let told = sym c.in-None.is ∙ c.search_table.ensures.value in
     (ap carried told, (after_none T list _ (search_under T c.args.cap) _ _ told c.search_table.ensures.list_after, beyond gave))
 
 pub returns-in-Spent : goal.returns-in-Spent
@@ -133,5 +133,5 @@ returns-in-Spent c =
     let gave = c.before.before.before.before.before.before.before in
     let T = table_of c.args.table.now in
     let list = c.args.list.now in
-    let told = sym c.c-in-Spent-1.given.1 ∙ c.search_table.ensures.value in
+    let told = sym c.in-Spent.is ∙ c.search_table.ensures.value in
     (ap carried told, (after_spent T list _ (search_under T c.args.cap) _ _ told c.search_table.ensures.list_after, beyond gave))

@@ -12,39 +12,39 @@ told s a e = ap (λ (x : Answer). answer_text s.args.table.now x s.args.list.now
 pub write_found-requires : goal.write_found-requires
 write_found-requires c =
     let s = c.before.before.before.before.before.before.before in
-    (c.requires.table_in_bounds, room_as c.args.out.now 0 _ _ (told s _ c.answer-1.given.1) c.requires.room)
+    (c.requires.table_in_bounds, room_as c.args.out.now 0 _ _ (told s _ c.in-Found.is) c.requires.room)
 
 pub write_answer-requires : goal.write_answer-requires
 write_answer-requires c =
     let s = c.before.before.before.before.before.before.before.before in
-    room_as c.args.out.now 0 _ _ (told s _ c.answer-in-None-1.given.1) c.requires.room
+    room_as c.args.out.now 0 _ _ (told s _ c.in-None.is) c.requires.room
 
 pub write_answer-requires-in-Spent : goal.write_answer-requires-in-Spent
 write_answer-requires-in-Spent c =
     let s = c.before.before.before.before.before.before.before.before in
-    room_as c.args.out.now 0 _ _ (told s _ c.answer-in-Spent-1.given.1) c.requires.room
+    room_as c.args.out.now 0 _ _ (told s _ c.in-Spent.is) c.requires.room
 
 pub write_refused-requires : goal.write_refused-requires
 write_refused-requires c =
     let s = c.before.before.before.before.before.before.before in
-    room_as c.args.out.now 0 _ _ (told s _ c.answer-in-Refused-1.given.1) c.requires.room
+    room_as c.args.out.now 0 _ _ (told s _ c.in-Refused.is) c.requires.room
 
 pub returns-in-Found : goal.returns-in-Found
 returns-in-Found c =
     let s = c.before.before.before.before.before.before.before.before.before.before in
-    stored_as _ _ _ _ _ _ (told s _ c.answer-1.given.1) c.write_found.ensures
+    stored_as _ _ _ _ _ _ (told s _ c.in-Found.is) c.write_found.ensures
 
 pub returns-in-None : goal.returns-in-None
 returns-in-None c =
     let s = c.before.before.before.before.before.before.before.before.before.before.before in
-    stored_as _ _ _ _ _ _ (told s _ c.answer-in-None-1.given.1) c.write_answer.ensures
+    stored_as _ _ _ _ _ _ (told s _ c.in-None.is) c.write_answer.ensures
 
 pub returns-in-Spent : goal.returns-in-Spent
 returns-in-Spent c =
     let s = c.before.before.before.before.before.before.before.before.before.before.before in
-    stored_as _ _ _ _ _ _ (told s _ c.answer-in-Spent-1.given.1) c.write_answer-in-Spent.ensures
+    stored_as _ _ _ _ _ _ (told s _ c.in-Spent.is) c.write_answer-in-Spent.ensures
 
 pub returns-in-Refused : goal.returns-in-Refused
 returns-in-Refused c =
     let s = c.before.before.before.before.before.before.before.before.before.before in
-    stored_as _ _ _ _ _ _ (told s _ c.answer-in-Refused-1.given.1) c.write_refused.ensures
+    stored_as _ _ _ _ _ _ (told s _ c.in-Refused.is) c.write_refused.ensures

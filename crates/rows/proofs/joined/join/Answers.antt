@@ -11,7 +11,7 @@ abbrev of : goal.Start → Family → Joined
 of s family = join_of family s.args.level s.args.a s.args.b s.args.ahead
 
 pub returns-in-Release : goal.returns-in-Release
-returns-in-Release c = c.join_release.ensures ∙ sym (ap (of c.before.before.before) c.enum_told-1.given.1)
+returns-in-Release c = c.join_release.ensures ∙ sym (ap (of c.before.before.before) c.in-Release.is)
 
 pub returns-in-Until : goal.returns-in-Until
 returns-in-Until c =
@@ -22,7 +22,7 @@ returns-in-Until c =
     let t1 = c.turn in
     c.turn_joined.ensures
     ∙ ap (turned_joined false) (r.ensures ∙ (λ i. join_release (t1.ensures i) (t2.ensures i) (t3.ensures i) (t4.ensures i)))
-    ∙ sym (ap (of c.before.before.before.before.before.before.before.before) c.enum_told-in-Until-1.given.1)
+    ∙ sym (ap (of c.before.before.before.before.before.before.before.before) c.in-Until.is)
 
 pub returns-in-Eventually : goal.returns-in-Eventually
 returns-in-Eventually c =
@@ -32,7 +32,7 @@ returns-in-Eventually c =
     let t5 = c.turn-in-Eventually in
     c.turn_joined-in-Eventually.ensures
     ∙ ap (turned_joined false) (r.ensures ∙ (λ i. join_always (t5.ensures i) (t6.ensures i) (t7.ensures i)))
-    ∙ sym (ap (of c.before.before.before.before.before.before.before) c.enum_told-in-Eventually-1.given.1)
+    ∙ sym (ap (of c.before.before.before.before.before.before.before) c.in-Eventually.is)
 
 pub returns-in-Always : goal.returns-in-Always
-returns-in-Always c = c.join_always-in-Always.ensures ∙ sym (ap (of c.before.before.before) c.enum_told-in-Always-1.given.1)
+returns-in-Always c = c.join_always-in-Always.ensures ∙ sym (ap (of c.before.before.before) c.in-Always.is)

@@ -19,7 +19,7 @@ returns c =
     let a = c.args in
     let r = c.row_at-old.result in
     let old : r ≡ row_at a.words.now a.at = c.row_at-old.ensures in
-    let told : c.if-yes-old.t24 ≡ grown a.x r = ⊎_elim
+    let told : c.if-yes-old.result ≡ grown a.x r = ⊎_elim
     (λ w. w.1 ∙ rw (ne_eqb _ _ w.0.taken))
     (λ w. w.1 ∙ rw (eq-eqb _ _ w.0.left))
     c.if-yes-old.branch in

@@ -6,4 +6,4 @@ use Rattle.search.proofs.best.undercuts.Goals as goal
 pub returns-in-Cheapest : goal.returns-in-Cheapest
 returns-in-Cheapest c =
     let a = c.args in
-    sym (ap (beats a.price) c.best-1.given.1)
+    sym (ap (beats a.price) c.in-Cheapest.is)

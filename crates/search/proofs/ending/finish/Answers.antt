@@ -21,15 +21,15 @@ copy_front-requires c =
 pub returns-in-Unfound : goal.returns-in-Unfound
 returns-in-Unfound c =
     let a = c.args in
-    let w : a.walked ≡ Passed Unfound c.walked-1.given.0.1.0 = c.walked-1.given.1 ∙ ap (λ (b : Best). Passed b c.walked-1.given.0.1.0) c.enum_told-1.given.1 in
+    let w : a.walked ≡ Passed Unfound c.in-Passed.made = c.in-Passed.is ∙ ap (λ (b : Best). Passed b c.in-Passed.made) c.in-Unfound.is in
     (sym (ap (finished a.settled) w), sym (ap (λ (x : Walked). written (length (table_of a.table.now).steps) x a.find.now a.list.now) w))
 
 pub returns-in-Cheapest : goal.returns-in-Cheapest
 returns-in-Cheapest c =
     let a = c.args in
-    let made = c.walked-1.given.0.1.0 in
-    let price = c.best-1.given.0.0 in
-    let w : a.walked ≡ Passed (Cheapest price) made = c.walked-1.given.1 ∙ ap (λ (b : Best). Passed b made) c.best-1.given.1 in
+    let made = c.in-Passed.made in
+    let price = c.in-Cheapest.price in
+    let w : a.walked ≡ Passed (Cheapest price) made = c.in-Passed.is ∙ ap (λ (b : Best). Passed b made) c.in-Cheapest.is in
     let e = steps_are a.table.now c.counts_of-c.result c.counts_of-c.ensures in (
       sym (ap (finished a.settled) w),
       c.copy_front.ensures
@@ -40,5 +40,5 @@ returns-in-Cheapest c =
 pub returns-in-Cut : goal.returns-in-Cut
 returns-in-Cut c =
     let a = c.args in
-    let w = c.walked-in-Cut-1.given.1 in
+    let w = c.in-Cut.is in
     (sym (ap (finished a.settled) w), sym (ap (λ (x : Walked). written (length (table_of a.table.now).steps) x a.find.now a.list.now) w))

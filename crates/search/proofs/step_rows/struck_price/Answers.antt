@@ -22,7 +22,7 @@ read c =
     let l = c.loop-j in
     let part = c.steps_part-steps in (
       read_step c.args.table.now c.requires.0 l.j (omega arith) part.result.now part.ensures c.step_at-x.result c.step_at-x.ensures,
-      price_byte c.args.table.now (λ k. omega (arith, c.shared_slice_known-1.given k)) l.j,
+      price_byte c.args.table.now (λ k. omega (arith, c.type_inv.table k)) l.j,
     )
 
 -- what is added

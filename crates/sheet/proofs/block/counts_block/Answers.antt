@@ -9,12 +9,11 @@ use Rattle.sheet.proofs.block.counts_block.Goals as goal
 pub returns-in_default : goal.returns-in_default
 returns-in_default c =
     let l = c.args.text.now in
-    let e1 : exactly counts_names l ≡ broken = sym c.skip_names.ensures ∙ ap (placed l tt) c.enum_told-1.given.1 in
+    let e1 : exactly counts_names l ≡ broken = sym c.skip_names.ensures ∙ ap (placed l tt) c.in_default.is in
     rw e1
 
 pub returns : goal.returns
 returns c =
     let l = c.args.text.now in
-    let v = c.first-1.given in
-    let e1 : exactly counts_names l ≡ got tt (drop v.0.0 l) = sym c.skip_names.ensures ∙ ap (placed l tt) v.1 in
+    let e1 : exactly counts_names l ≡ got tt (drop c.in-At.first l) = sym c.skip_names.ensures ∙ ap (placed l tt) c.in-At.is in
     rw e1 c.read_counts.ensures

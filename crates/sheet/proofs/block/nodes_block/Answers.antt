@@ -8,17 +8,14 @@ use Rattle.sheet.proofs.block.nodes_block.Goals as goal
 pub returns-in_default : goal.returns-in_default
 returns-in_default c =
     let a = c.args in
-    no_names nodes_names a.text.now (drop a.at a.text.now) a.count node_parser c.skip_names.ensures c.enum_told-1.given.1
+    no_names nodes_names a.text.now (drop a.at a.text.now) a.count node_parser c.skip_names.ensures c.in_default.is
 
 pub returns-in_default-skip_nodes : goal.returns-in_default-skip_nodes
 returns-in_default-skip_nodes c =
     let a = c.args in
-    let v = c.first-1.given in
-    no_lines nodes_names a.text.now (drop a.at a.text.now) a.count node_parser c.skip_names.ensures v.0.0 v.1 c.skip_nodes.ensures c.enum_told-in_default-skip_nodes-1.given.1
+    no_lines nodes_names a.text.now (drop a.at a.text.now) a.count node_parser c.skip_names.ensures c.in-At.first c.in-At.is c.skip_nodes.ensures c.in_default-skip_nodes.is
 
 pub returns : goal.returns
 returns c =
     let a = c.args in
-    let v = c.first-1.given in
-    let w = c.next-1.given in
-    all_lines nodes_names a.text.now (drop a.at a.text.now) a.count node_parser c.skip_names.ensures v.0.0 v.1 c.skip_nodes.ensures w.0.0 w.1
+    all_lines nodes_names a.text.now (drop a.at a.text.now) a.count node_parser c.skip_names.ensures c.in-At.first c.in-At.is c.skip_nodes.ensures c.in-At-skip_nodes.next c.in-At-skip_nodes.is

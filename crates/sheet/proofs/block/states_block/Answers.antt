@@ -8,17 +8,14 @@ use Rattle.sheet.proofs.block.states_block.Goals as goal
 pub returns-in_default : goal.returns-in_default
 returns-in_default c =
     let a = c.args in
-    no_names states_names a.text.now (drop a.at a.text.now) a.count state_parser c.skip_names.ensures c.enum_told-1.given.1
+    no_names states_names a.text.now (drop a.at a.text.now) a.count state_parser c.skip_names.ensures c.in_default.is
 
 pub returns-in_default-skip_states : goal.returns-in_default-skip_states
 returns-in_default-skip_states c =
     let a = c.args in
-    let v = c.first-1.given in
-    no_lines states_names a.text.now (drop a.at a.text.now) a.count state_parser c.skip_names.ensures v.0.0 v.1 c.skip_states.ensures c.enum_told-in_default-skip_states-1.given.1
+    no_lines states_names a.text.now (drop a.at a.text.now) a.count state_parser c.skip_names.ensures c.in-At.first c.in-At.is c.skip_states.ensures c.in_default-skip_states.is
 
 pub returns : goal.returns
 returns c =
     let a = c.args in
-    let v = c.first-1.given in
-    let w = c.next-1.given in
-    all_lines states_names a.text.now (drop a.at a.text.now) a.count state_parser c.skip_names.ensures v.0.0 v.1 c.skip_states.ensures w.0.0 w.1
+    all_lines states_names a.text.now (drop a.at a.text.now) a.count state_parser c.skip_names.ensures c.in-At.first c.in-At.is c.skip_states.ensures c.in-At-skip_states.next c.in-At-skip_states.is

@@ -8,17 +8,14 @@ use Rattle.sheet.proofs.block.steps_block.Goals as goal
 pub returns-in_default : goal.returns-in_default
 returns-in_default c =
     let a = c.args in
-    no_names steps_names a.text.now (drop a.at a.text.now) a.count step_parser c.skip_names.ensures c.enum_told-1.given.1
+    no_names steps_names a.text.now (drop a.at a.text.now) a.count step_parser c.skip_names.ensures c.in_default.is
 
 pub returns-in_default-skip_steps : goal.returns-in_default-skip_steps
 returns-in_default-skip_steps c =
     let a = c.args in
-    let v = c.first-1.given in
-    no_lines steps_names a.text.now (drop a.at a.text.now) a.count step_parser c.skip_names.ensures v.0.0 v.1 c.skip_steps.ensures c.enum_told-in_default-skip_steps-1.given.1
+    no_lines steps_names a.text.now (drop a.at a.text.now) a.count step_parser c.skip_names.ensures c.in-At.first c.in-At.is c.skip_steps.ensures c.in_default-skip_steps.is
 
 pub returns : goal.returns
 returns c =
     let a = c.args in
-    let v = c.first-1.given in
-    let w = c.next-1.given in
-    all_lines steps_names a.text.now (drop a.at a.text.now) a.count step_parser c.skip_names.ensures v.0.0 v.1 c.skip_steps.ensures w.0.0 w.1
+    all_lines steps_names a.text.now (drop a.at a.text.now) a.count step_parser c.skip_names.ensures c.in-At.first c.in-At.is c.skip_steps.ensures c.in-At-skip_steps.next c.in-At-skip_steps.is

@@ -15,7 +15,7 @@ pub returns-in_default : goal.returns-in_default
 returns-in_default c =
     let a = c.args in
     let l = a.text.now in
-    let e : node_parser (drop c.loop-left.place l) ≡ broken = sym c.read_node.ensures ∙ ap (node_read l) c.enum_told-1.given.1 in
+    let e : node_parser (drop c.loop-left.place l) ≡ broken = sym c.read_node.ensures ∙ ap (node_read l) c.in_default.is in
     sym (behind_none (times a.count node_parser (drop a.at l)) (c.loop-left.invariant ∙ times_broken node_parser c.loop-left.left (drop c.loop-left.place l) c.loop-left-test.true e))
 
 pub overflow_sub-left : goal.overflow_sub-left
@@ -27,9 +27,8 @@ loop-left-smaller c = omega arith
 pub loop-left-preserved : goal.loop-left-preserved
 loop-left-preserved c =
     let l = c.args.text.now in
-    let v = c.next-1.given in
-    let e : node_parser (drop c.loop-left.place l) ≡ got v.0.0 (drop v.0.1.0 l) = sym c.read_node.ensures ∙ ap (node_read l) v.1 in
-    c.loop-left.invariant ∙ times_next node_parser c.loop-left.left (drop c.loop-left.place l) v.0.0 (drop v.0.1.0 l) c.loop-left-test.true e
+    let e : node_parser (drop c.loop-left.place l) ≡ got c.in-Values.field-0 (drop c.in-Values.next l) = sym c.read_node.ensures ∙ ap (node_read l) c.in-Values.is in
+    c.loop-left.invariant ∙ times_next node_parser c.loop-left.left (drop c.loop-left.place l) c.in-Values.field-0 (drop c.in-Values.next l) c.loop-left-test.true e
 
 pub returns : goal.returns
 unfolding times

@@ -22,7 +22,7 @@ returns-then-j-counts c =
     c.lowest_unsettled-j.result c.lowest_unsettled-j.ensures (omega arith)
 
 pub write_list-requires : goal.write_list-requires
-write_list-requires c = c.before.before.before.before.before.before.before.before.before.before.before.before in (s.requires.0.0, s.requires.0.1, s.requires.1)
+write_list-requires c = (c.requires.table_value.0, c.requires.table_value.1, c.requires.table_in_bounds)
 
 pub returns-then-undercuts : goal.returns-then-undercuts
 returns-then-undercuts c =

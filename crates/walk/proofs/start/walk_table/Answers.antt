@@ -19,22 +19,22 @@ comes c =
     c.assess.ensures c.args.words.now [] unfound (closure-is_right (table_of c.args.table.now) (handed_table c.requires.handed)).fine_none c.requires.closes c.requires.resting tt
 
 pub assess-requires : goal.assess-requires
-assess-requires c = c.before.before.before.before.before.before.before.before in ((s.requires.0.setting.accepted, s.requires.0.rows_size), s.requires.0.room)
+assess-requires c = ((c.requires.handed.setting.accepted, c.requires.handed.rows_size), c.requires.handed.room)
 
 pub both_ways-requires : goal.both_ways-requires
 both_ways-requires c =
     let assess = opened.before.before.before.before in
     (
       handed_again c.requires.handed c.requires.handed.words_size c.assess.auto.1.1.1.1.0,
-      (zero-le, start_stands (table_of c.args.table.now) c.args.cap _ _ _ (comes assess) c.j-1.given.0.0 c.j-1.given.1),
+      (zero-le, start_stands (table_of c.args.table.now) c.args.cap _ _ _ (comes assess) c.in-Unsettled.j c.in-Unsettled.is),
     )
 
 pub returns-in-Ended : goal.returns-in-Ended
 returns-in-Ended c =
     let assess = ended.before.before.before.before in
-    start_ended (table_of c.args.table.now) c.args.cap _ _ _ (comes assess) c.best-1.given.0.0 c.best-1.given.1
+    start_ended (table_of c.args.table.now) c.args.cap _ _ _ (comes assess) c.in-Ended.best c.in-Ended.is
 
 pub returns-in-Unsettled : goal.returns-in-Unsettled
 returns-in-Unsettled c =
     let assess = opened.before.before.before.before in
-    start_onward (table_of c.args.table.now) c.args.cap _ _ _ (comes assess) c.j-1.given.0.0 c.j-1.given.1 _ _ c.both_ways.ensures
+    start_onward (table_of c.args.table.now) c.args.cap _ _ _ (comes assess) c.in-Unsettled.j c.in-Unsettled.is _ _ c.both_ways.ensures
