@@ -12,26 +12,6 @@ use Rattle.events.proofs.SettingFacts.{few_nodes}
 use Rattle.events.proofs.VisitAll.{Among, among_none, among_next, among_all, looked_failed}
 use Rattle.events.proofs.nodes.nodes_visit.Goals as goal
 
--- the node whose turn it is
-turn : (c : goal.After-node_visit-arg-in-loop-k-2-1) → c.if-down.i ≡ ordered c.args.down c.args.net.nodes c.loop-k.k
-turn c =
-    let a = c.args in
-    let l = c.loop-k in
-    let i = c.if-down.i in
-    ⊎_elim (λ w. going_down a.down a.net.nodes l.k i w.0.taken w.1) (λ w. going_up a.down a.net.nodes l.k i w.0.left w.1) c.if-down.branch
-
--- what was looked at with this node
-now-looked : (c : goal.After-both-report)
-    → let s = c.before.before.before.before.before.before.before.before.before.before.before.before.before.before.before.before.before.before.before.before.before in let l = c.loop-k in let v = c.node_visit-r in
-    Looked (table_of c.args.table.now) (Among c.args.down c.args.net.nodes (l.k + 1)) Always c.args.looks.now v.new.looks.1.1.1.1.1.0
-    (memory c.args.rows.now c.args.words.now) (memory v.new.looks.1.1.1.0 v.new.looks.1.1.1.1.0) c.both-report.result
-now-looked c =
-    let l = c.loop-k in
-    let v = c.node_visit-r in
-    subst (λ (r : Report). Looked (table_of c.args.table.now) (Among c.args.down c.args.net.nodes (l.k + 1)) Always c.args.looks.now v.new.looks.1.1.1.1.1.0
-    (memory c.args.rows.now c.args.words.now) (memory v.new.looks.1.1.1.0 v.new.looks.1.1.1.1.0) r) (sym c.both-report.ensures)
-    (among_next c.args.down c.args.net.nodes l.k c.if-down.i (turn c.before.before.before.before.before.before.before.before) l.invariant.3 v.ensures)
-
 pub loop-k-init : goal.loop-k-init
 loop-k-init c = (zero-le, refl, refl, among_none (table_of c.args.table.now) c.args.down c.args.net.nodes _ _ c.requires.sized)
 
@@ -48,12 +28,22 @@ node_visit-r-requires c =
       sized = l.invariant.3.advance.sized;
       looks_len = (
           l.invariant.3.size ∙ c.requires.looks_len,
-          rw (turn c) (ordered-below c.args.down c.args.net.nodes l.k c.loop-k-test.true),
+          rw (let h : c.if-down.i ≡ ordered c.args.down c.args.net.nodes c.loop-k.k = let a = c.args in
+    let l = c.loop-k in
+    let i = c.if-down.i in
+    ⊎_elim (λ w. going_down a.down a.net.nodes l.k i w.0.taken w.1) (λ w. going_up a.down a.net.nodes l.k i w.0.left w.1) c.if-down.branch in h) (ordered-below c.args.down c.args.net.nodes l.k c.loop-k-test.true),
         );
     }
 
 pub returns-then-report : goal.returns-then-report
-returns-then-report c = looked_failed c.if-report.true (now-looked c.before)
+returns-then-report c = looked_failed c.if-report.true ((let h : let s = c.before.before.before.before.before.before.before.before.before.before.before.before.before.before.before.before.before.before.before.before.before in let l = c.loop-k in let v = c.node_visit-r in Looked (table_of c.args.table.now) (Among c.args.down c.args.net.nodes (l.k + 1)) Always c.args.looks.now v.new.looks (memory c.args.rows.now c.args.words.now) (memory v.new.rows v.new.words) c.both-report.result = let l = c.loop-k in
+    let v = c.node_visit-r in
+    subst (λ (r : Report). Looked (table_of c.args.table.now) (Among c.args.down c.args.net.nodes (l.k + 1)) Always c.args.looks.now v.new.looks
+    (memory c.args.rows.now c.args.words.now) (memory v.new.rows v.new.words) r) (sym c.both-report.ensures)
+    (among_next c.args.down c.args.net.nodes l.k c.if-down.i (let h : c.if-down.i ≡ ordered c.args.down c.args.net.nodes c.loop-k.k = let a = c.args in
+    let l = c.loop-k in
+    let i = c.if-down.i in
+    ⊎_elim (λ w. going_down a.down a.net.nodes l.k i w.0.taken w.1) (λ w. going_up a.down a.net.nodes l.k i w.0.left w.1) c.if-down.branch in h) l.invariant.3 v.ensures) in h))
 
 pub overflow_add-k : goal.overflow_add-k
 overflow_add-k c = omega (arith, c.loop-k-test.true, few_nodes c.requires.setting)
@@ -66,7 +56,14 @@ loop-k-preserved c = (
   omega (arith, c.loop-k-test.true),
   c.node_visit-r.auto.1.1.1.1.1.0 ∙ c.loop-k.invariant.1,
   c.node_visit-r.auto.1.1.1.1.1.1.0 ∙ c.loop-k.invariant.2,
-  now-looked c.before,
+  (let h : let s = c.before.before.before.before.before.before.before.before.before.before.before.before.before.before.before.before.before.before.before.before.before in let l = c.loop-k in let v = c.node_visit-r in Looked (table_of c.args.table.now) (Among c.args.down c.args.net.nodes (l.k + 1)) Always c.args.looks.now v.new.looks (memory c.args.rows.now c.args.words.now) (memory v.new.rows v.new.words) c.both-report.result = let l = c.loop-k in
+    let v = c.node_visit-r in
+    subst (λ (r : Report). Looked (table_of c.args.table.now) (Among c.args.down c.args.net.nodes (l.k + 1)) Always c.args.looks.now v.new.looks
+    (memory c.args.rows.now c.args.words.now) (memory v.new.rows v.new.words) r) (sym c.both-report.ensures)
+    (among_next c.args.down c.args.net.nodes l.k c.if-down.i (let h : c.if-down.i ≡ ordered c.args.down c.args.net.nodes c.loop-k.k = let a = c.args in
+    let l = c.loop-k in
+    let i = c.if-down.i in
+    ⊎_elim (λ w. going_down a.down a.net.nodes l.k i w.0.taken w.1) (λ w. going_up a.down a.net.nodes l.k i w.0.left w.1) c.if-down.branch in h) l.invariant.3 v.ensures) in h),
 )
 
 pub returns : goal.returns

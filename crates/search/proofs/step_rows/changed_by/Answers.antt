@@ -7,10 +7,5 @@ use Rattle.table.specs.declared.record.Step.{Step}
 use Rattle.table.proofs.Accepted.{ReadStep, read_step}
 use Rattle.search.proofs.step_rows.changed_by.Goals as goal
 
--- the step that was read
-read : (c : goal.After-step_at-x) → ReadStep c.args.table.now c.args.j c.step_at-x.result
-read c =
-    read_step c.args.table.now c.requires.0 c.args.j c.requires.1 c.steps_part-steps.result.now c.steps_part-steps.ensures c.step_at-x.result c.step_at-x.ensures
-
 pub returns : goal.returns
-returns c = c.insert.ensures ∙ ap (λ (x : Step). set_of 32 (λ t. member 0 t || eqb t x.from)) (read c.before).here
+returns c = c.insert.ensures ∙ ap (λ (x : Step). set_of 32 (λ t. member 0 t || eqb t x.from)) (let h : ReadStep c.args.table.now c.args.j c.step_at-x.result = read_step c.args.table.now c.requires.0 c.args.j c.requires.1 c.steps_part-steps.result.now c.steps_part-steps.ensures c.step_at-x.result c.step_at-x.ensures in h).here

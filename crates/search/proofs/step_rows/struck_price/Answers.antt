@@ -14,28 +14,6 @@ use Rattle.rows.specs.Steps.{step_bit}
 use Rattle.search.proofs.step_rows.struck_price.Invariants.{cost}
 use Rattle.search.proofs.step_rows.struck_price.Goals as goal
 
--- the step that was read, and its price
-read : (c : goal.After-step_at-x)
-    → let s = c.before.before.before.before.before.before.before in
-    ReadStep c.args.table.now c.loop-j.j c.step_at-x.result × ((step_at (table_of c.args.table.now) c.loop-j.j).price < 256)
-read c =
-    let l = c.loop-j in
-    let part = c.steps_part-steps in (
-      read_step c.args.table.now c.requires.0 l.j (omega arith) part.result.now part.ensures c.step_at-x.result c.step_at-x.ensures,
-      price_byte c.args.table.now (λ k. omega (arith, c.type_inv.table k)) l.j,
-    )
-
--- what is added
-added : (c : goal.After-price_if_struck-price)
-    → let s = c.before.before.before.before.before.before.before.before in
-    let l = c.loop-j in
-    (c.price_if_struck-price.result ≡ cost c.args.table.now c.args.rows.now l.j) × (c.price_if_struck-price.result ≤ 255)
-added c =
-    let r = read c.before in
-    let rows = c.args.rows.now in
-    let same = c.price_if_struck-price.ensures ∙ ap (λ (x : Step). cond (step_bit rows false x) x.price 0) r.0.here in
-    (same, rw same (cond_most (step_bit rows false (step_at (table_of c.args.table.now) c.loop-j.j)) _ 255 (omega (arith, r.1))))
-
 pub loop-j-init : goal.loop-j-init
 unfolding sum_below
 loop-j-init c =
@@ -45,12 +23,25 @@ loop-j-init c =
 
 pub price_if_struck-price-requires : goal.price_if_struck-price-requires
 price_if_struck-price-requires c =
-    let r = read c in
+    let r = (let h : let s = c.before.before.before.before.before.before.before in ReadStep c.args.table.now c.loop-j.j c.step_at-x.result × ((step_at (table_of c.args.table.now) c.loop-j.j).price < 256) = let l = c.loop-j in
+    let part = c.steps_part-steps in (
+      read_step c.args.table.now c.requires.0 l.j (omega arith) part.result.now part.ensures c.step_at-x.result c.step_at-x.ensures,
+      price_byte c.args.table.now (λ k. omega (arith, c.type_inv.table k)) l.j,
+    ) in h) in
     (r.0.from_below, rw r.0.here r.1, c.requires.1)
 
 pub overflow_add-price : goal.overflow_add-price
 overflow_add-price c =
-    omega (arith, (added c).1, (accepted c.args.table.now c.requires.0).table.few_steps)
+    let s = c.before.before.before.before.before.before.before.before in
+    omega (arith, ((let h : let s = c.before.before.before.before.before.before.before.before in let l = c.loop-j in (c.price_if_struck-price.result ≡ cost c.args.table.now c.args.rows.now l.j) × (c.price_if_struck-price.result ≤ 255) = let s = c.before.before.before.before.before.before.before.before in
+    let r = (let h : let s = c.before.before.before.before.before.before.before in ReadStep c.args.table.now c.loop-j.j c.step_at-x.result × ((step_at (table_of c.args.table.now) c.loop-j.j).price < 256) = let l = c.loop-j in
+    let part = c.steps_part-steps in (
+      read_step c.args.table.now c.requires.0 l.j (omega arith) part.result.now part.ensures c.step_at-x.result c.step_at-x.ensures,
+      price_byte c.args.table.now (λ k. omega (arith, c.type_inv.table k)) l.j,
+    ) in h) in
+    let rows = c.args.rows.now in
+    let same = c.price_if_struck-price.ensures ∙ ap (λ (x : Step). cond (step_bit rows false x) x.price 0) r.0.here in
+    (same, rw same (cond_most (step_bit rows false (step_at (table_of c.args.table.now) c.loop-j.j)) _ 255 (omega (arith, r.1)))) in h)).1, (accepted c.args.table.now c.requires.0).table.few_steps)
 
 pub overflow_add-j : goal.overflow_add-j
 overflow_add-j c =
@@ -61,12 +52,31 @@ loop-j-smaller c = omega arith
 
 pub loop-j-preserved : goal.loop-j-preserved
 loop-j-preserved c =
+    let s = c.before.before.before.before.before.before.before.before in
     let l = c.loop-j in
     let f = cost c.args.table.now c.args.rows.now in (
       omega arith,
       l.invariant.1,
-      (λ i. l.invariant.2 i + (added c).0 i) ∙ sym (sum_next l.j f),
-      omega (arith, (added c).1),
+      (λ i. l.invariant.2 i + ((let h : let s = c.before.before.before.before.before.before.before.before in let l = c.loop-j in (c.price_if_struck-price.result ≡ cost c.args.table.now c.args.rows.now l.j) × (c.price_if_struck-price.result ≤ 255) = let s = c.before.before.before.before.before.before.before.before in
+    let r = (let h : let s = c.before.before.before.before.before.before.before in ReadStep c.args.table.now c.loop-j.j c.step_at-x.result × ((step_at (table_of c.args.table.now) c.loop-j.j).price < 256) = let counts = c.before.before.before.before in
+    let s = counts.before.before.before in
+    let l = c.loop-j in
+    let part = c.steps_part-steps in (
+      read_step c.args.table.now c.requires.0 l.j (omega arith) part.result.now part.ensures c.step_at-x.result c.step_at-x.ensures,
+      price_byte c.args.table.now (λ k. omega (arith, c.type_inv.table k)) l.j,
+    ) in h) in
+    let rows = c.args.rows.now in
+    let same = c.price_if_struck-price.ensures ∙ ap (λ (x : Step). cond (step_bit rows false x) x.price 0) r.0.here in
+    (same, rw same (cond_most (step_bit rows false (step_at (table_of c.args.table.now) c.loop-j.j)) _ 255 (omega (arith, r.1)))) in h)).0 i) ∙ sym (sum_next l.j f),
+      omega (arith, ((let h : let s = c.before.before.before.before.before.before.before.before in let l = c.loop-j in (c.price_if_struck-price.result ≡ cost c.args.table.now c.args.rows.now l.j) × (c.price_if_struck-price.result ≤ 255) = let s = c.before.before.before.before.before.before.before.before in
+    let r = (let h : let s = c.before.before.before.before.before.before.before in ReadStep c.args.table.now c.loop-j.j c.step_at-x.result × ((step_at (table_of c.args.table.now) c.loop-j.j).price < 256) = let l = c.loop-j in
+    let part = c.steps_part-steps in (
+      read_step c.args.table.now c.requires.0 l.j (omega arith) part.result.now part.ensures c.step_at-x.result c.step_at-x.ensures,
+      price_byte c.args.table.now (λ k. omega (arith, c.type_inv.table k)) l.j,
+    ) in h) in
+    let rows = c.args.rows.now in
+    let same = c.price_if_struck-price.ensures ∙ ap (λ (x : Step). cond (step_bit rows false x) x.price 0) r.0.here in
+    (same, rw same (cond_most (step_bit rows false (step_at (table_of c.args.table.now) c.loop-j.j)) _ 255 (omega (arith, r.1)))) in h)).1),
     )
 
 pub returns : goal.returns

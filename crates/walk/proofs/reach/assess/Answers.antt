@@ -31,7 +31,7 @@ returns-then-undercuts c =
     let under : c.undercuts.result ≡ beats c.struck_price-price.result c.args.best = c.undercuts.ensures in
     comes_found _ (accepted c.args.table.now c.requires.table_value.0).table P fine _ _ closes rest c.args.best c.args.find.now b stores
     c.if-closed.false c.struck_price-price.result c.struck_price-price.ensures (sym c.if-undercuts.true ∙ under)
-    c.lowest_unsettled-j.result c.lowest_unsettled-j.ensures (omega arith) c.write_list.new.list.1.1.0 c.write_list.ensures
+    c.lowest_unsettled-j.result c.lowest_unsettled-j.ensures (omega arith) c.write_list.new.list c.write_list.ensures
 
 pub returns : goal.returns
 returns c =
