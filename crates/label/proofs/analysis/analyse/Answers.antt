@@ -74,8 +74,8 @@ analysed-requires c =
     record {
       table_value = (sym c.check_table-first.ensures ∙ c.in_default.is);
       list_len = list_length (length (table_of t).steps) l (let h : let s = c.before.before.before.before.before.before.before.before.before in list_verdict (length (table_of c.args.table.now).steps) c.args.list.now ≡ Accepted = let k = c.counts_of-c in
-    let v = c.check_list-second in
-    sym (list_is c.args.table.now k.result k.ensures c.args.list.now v.result v.ensures) ∙ c.in_default-second.is in h);
+          let v = c.check_list-second in
+          sym (list_is c.args.table.now k.result k.ensures c.args.list.now v.result v.ensures) ∙ c.in_default-second.is in h);
       n_value = (states_are t k.result k.ensures, nodes_are t k.result k.ensures);
     }
 

@@ -64,6 +64,9 @@ write_ascending-requires c = omega (arith, (let h : let a = c.args in Parts a.se
 pub slice_bounds-write_ascending-count : goal.slice_bounds-write_ascending-count
 slice_bounds-write_ascending-count c = let w = c.write_ascending in first_fits (let h : let a = c.args in Parts a.set a.initial c.intersection-first.result c.minus-others.result c.count-k.result a.out.now = parts_of_lem c.args.set c.args.initial _ _ _ c.args.out.now c.intersection-first.ensures c.minus-others.ensures c.count-k.ensures c.requires in h) w.new.out w.ensures
 
+pub slice_bounds-write_ascending-start : goal.slice_bounds-write_ascending-start
+slice_bounds-write_ascending-start c = let w = c.write_ascending in first_fits (let h : let a = c.args in Parts a.set a.initial c.intersection-first.result c.minus-others.result c.count-k.result a.out.now = parts_of_lem c.args.set c.args.initial _ _ _ c.args.out.now c.intersection-first.ensures c.minus-others.ensures c.count-k.ensures c.requires in h) w.new.out w.ensures
+
 pub write_ascending-requires-2 : goal.write_ascending-requires-2
 write_ascending-requires-2 c = let w = c.write_ascending in others_fit (let h : let a = c.args in Parts a.set a.initial c.intersection-first.result c.minus-others.result c.count-k.result a.out.now = parts_of_lem c.args.set c.args.initial _ _ _ c.args.out.now c.intersection-first.ensures c.minus-others.ensures c.count-k.ensures c.requires in h) w.new.out w.ensures
 

@@ -19,38 +19,37 @@ bounds-words-right c =
 
 pub returns-in-1 : goal.returns-in-1
 unfolding node_word
-returns-in-1 c = sym (ap (node_word c.args.rows.now c.args.kept c.args.n c.args.states.now c.args.words.now) (of_kind c.args.x 1 c.in-1.keys1))
+returns-in-1 c = sym (ap (node_word c.args.rows.now c.args.kept c.args.n c.args.states.now c.args.words.now) (of_kind c.args.x 1 c.in-1.is))
 
 pub returns-in-2 : goal.returns-in-2
 unfolding node_word
 returns-in-2 c =
-    ap (bit_and c.args.kept) c.labelled_states.ensures ∙ sym (ap (node_word c.args.rows.now c.args.kept c.args.n c.args.states.now c.args.words.now) (of_kind c.args.x 2 c.in-2.keys2))
+    ap (bit_and c.args.kept) c.labelled_states.ensures ∙ sym (ap (node_word c.args.rows.now c.args.kept c.args.n c.args.states.now c.args.words.now) (of_kind c.args.x 2 c.in-2.is))
 
 pub returns-in-3 : goal.returns-in-3
 unfolding node_word
-returns-in-3 c = sym (ap (node_word c.args.rows.now c.args.kept c.args.n c.args.states.now c.args.words.now) (of_kind c.args.x 3 c.in-3.keys3))
+returns-in-3 c = sym (ap (node_word c.args.rows.now c.args.kept c.args.n c.args.states.now c.args.words.now) (of_kind c.args.x 3 c.in-3.is))
 
 pub returns-in-4 : goal.returns-in-4
 unfolding node_word
 returns-in-4 c =
     let x = c.args.x in
-    ap (λ (i : ℕ). bit_and ((let h : ℕ → ℕ = λ i. get_or c.args.words.now i 0 in h) x.a) ((let h : ℕ → ℕ = λ i. get_or c.args.words.now i 0 in h) i)) (c.second_child-right.ensures ∙ second_b x (omega (arith, c.in-4.keys4)))
-    ∙ sym (ap (node_word c.args.rows.now c.args.kept c.args.n c.args.states.now c.args.words.now) (of_kind x 4 c.in-4.keys4))
+    ap (λ (i : ℕ). bit_and ((let h : ℕ → ℕ = λ i. get_or c.args.words.now i 0 in h) x.a) ((let h : ℕ → ℕ = λ i. get_or c.args.words.now i 0 in h) i)) (c.second_child-right.ensures ∙ second_b x (omega (arith, c.in-4.is)))
+    ∙ sym (ap (node_word c.args.rows.now c.args.kept c.args.n c.args.states.now c.args.words.now) (of_kind x 4 c.in-4.is))
 
 pub returns-in-5 : goal.returns-in-5
 unfolding node_word
 returns-in-5 c =
     let x = c.args.x in
-    ap (λ (i : ℕ). bit_or ((let h : ℕ → ℕ = λ i. get_or c.args.words.now i 0 in h) x.a) ((let h : ℕ → ℕ = λ i. get_or c.args.words.now i 0 in h) i)) (c.second_child-right.ensures ∙ second_b x (omega (arith, c.in-5.keys5)))
-    ∙ sym (ap (node_word c.args.rows.now c.args.kept c.args.n c.args.states.now c.args.words.now) (of_kind x 5 c.in-5.keys5))
+    ap (λ (i : ℕ). bit_or ((let h : ℕ → ℕ = λ i. get_or c.args.words.now i 0 in h) x.a) ((let h : ℕ → ℕ = λ i. get_or c.args.words.now i 0 in h) i)) (c.second_child-right.ensures ∙ second_b x (omega (arith, c.in-5.is)))
+    ∙ sym (ap (node_word c.args.rows.now c.args.kept c.args.n c.args.states.now c.args.words.now) (of_kind x 5 c.in-5.is))
 
 pub returns-in-6 : goal.returns-in-6
 unfolding node_word
 returns-in-6 c =
-    let r = c.in_default-1.rest in
     c.next_states.ensures
     ∙ ap (λ (q : Quantifier). next_word q c.args.rows.now c.args.n ((let h : ℕ → ℕ = λ i. get_or c.args.words.now i 0 in h) c.args.x.a)) c.quantifier_of.ensures
-    ∙ sym (ap (node_word c.args.rows.now c.args.kept c.args.n c.args.states.now c.args.words.now) (next_kind c.args.x (from_six c.args.x.kind (omega arith) r.0.0.0.0.1 r.0.0.0.1 r.0.0.1 r.0.1 r.1) (omega arith)))
+    ∙ sym (ap (node_word c.args.rows.now c.args.kept c.args.n c.args.states.now c.args.words.now) (next_kind c.args.x (from_six c.args.x.kind (omega arith) (omega arith) (omega arith) (omega arith) (omega arith) (omega arith)) (omega arith)))
 
 pub returns-in-8 : goal.returns-in-8
 unfolding node_word
