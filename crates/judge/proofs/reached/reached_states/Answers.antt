@@ -15,13 +15,13 @@ pub bounds-rows-s : goal.bounds-rows-s
 bounds-rows-s c = (let h : c.lowest-s.result < 32 = rw c.lowest-s.ensures (lowest_below c.loop-left.left c.loop-left.invariant.left_small c.loop-left-test.true) in h)
 
 pub loop-left-smaller : goal.loop-left-smaller
-loop-left-smaller c = (let h : let l = c.loop-left in let a = c.args in Looked a.t1 a.starts c.union-reached.result c.union-left.result × (to_look c.union-reached.result c.union-left.result < to_look l.reached l.left) = let l = c.loop-left in
+loop-left-smaller c = (let h : let l = c.loop-left in let a = c.args in Looked a.rows a.starts c.union-reached.result c.union-left.result × (to_look c.union-reached.result c.union-left.result < to_look l.reached l.left) = let l = c.loop-left in
     looked_turn _ _ l.reached l.left l.invariant c.loop-left-test.true
     c.lowest-s.result c.minus-new.result c.union-reached.result c.remove.result c.union-left.result
     c.lowest-s.ensures c.minus-new.ensures c.union-reached.ensures c.remove.ensures c.union-left.ensures in h).1
 
 pub loop-left-preserved : goal.loop-left-preserved
-loop-left-preserved c = (let h : let l = c.loop-left in let a = c.args in Looked a.t1 a.starts c.union-reached.result c.union-left.result × (to_look c.union-reached.result c.union-left.result < to_look l.reached l.left) = let l = c.loop-left in
+loop-left-preserved c = (let h : let l = c.loop-left in let a = c.args in Looked a.rows a.starts c.union-reached.result c.union-left.result × (to_look c.union-reached.result c.union-left.result < to_look l.reached l.left) = let l = c.loop-left in
     looked_turn _ _ l.reached l.left l.invariant c.loop-left-test.true
     c.lowest-s.result c.minus-new.result c.union-reached.result c.remove.result c.union-left.result
     c.lowest-s.ensures c.minus-new.ensures c.union-reached.ensures c.remove.ensures c.union-left.ensures in h).0
