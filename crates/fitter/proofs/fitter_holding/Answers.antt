@@ -9,10 +9,18 @@ pub returns-in-Count : goal.returns-in-Count
 returns-in-Count c =
     let a = c.args in
     let answer = sym c.holding_states.ensures.value ∙ c.in-Count.is in
-    (sym (ap holding_number answer), (c.holding_states.ensures.out_after, sym (ap (λ (h : Holding). holding_count h a.count.now) answer)))
+    record {
+      value = sym (ap holding_number answer);
+      out_after = c.holding_states.ensures.out_after;
+      count_after = sym (ap (λ (h : Holding). holding_count h a.count.now) answer);
+    }
 
 pub returns-in-Refused : goal.returns-in-Refused
 returns-in-Refused c =
     let a = c.args in
     let answer = sym c.holding_states.ensures.value ∙ c.in-Refused.is in
-    (c.refusal_number.ensures ∙ sym (ap holding_number answer), (c.holding_states.ensures.out_after, sym (ap (λ (h : Holding). holding_count h a.count.now) answer)))
+    record {
+      value = c.refusal_number.ensures ∙ sym (ap holding_number answer);
+      out_after = c.holding_states.ensures.out_after;
+      count_after = sym (ap (λ (h : Holding). holding_count h a.count.now) answer);
+    }

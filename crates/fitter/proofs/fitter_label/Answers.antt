@@ -4,4 +4,7 @@ use Rattle.table.specs.Verdict.{verdict_number}
 use Rattle.fitter.proofs.fitter_label.Goals as goal
 
 pub returns : goal.returns
-returns c = (c.verdict_number.ensures ∙ ap verdict_number c.label_nodes.ensures.value, c.label_nodes.ensures.out_after)
+returns c = record {
+      value = c.verdict_number.ensures ∙ ap verdict_number c.label_nodes.ensures.value;
+      out_after = c.label_nodes.ensures.out_after;
+    }

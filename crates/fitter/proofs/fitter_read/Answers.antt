@@ -9,10 +9,18 @@ pub returns-in-Length : goal.returns-in-Length
 returns-in-Length c =
     let a = c.args in
     let answer = sym c.read.ensures.value ∙ c.in-Length.is in
-    (sym (ap read_number answer), (c.read.ensures.out_after, sym (ap (λ (r : Read). read_length r a.length.now) answer)))
+    record {
+      value = sym (ap read_number answer);
+      out_after = c.read.ensures.out_after;
+      length_after = sym (ap (λ (r : Read). read_length r a.length.now) answer);
+    }
 
 pub returns-in-Refused : goal.returns-in-Refused
 returns-in-Refused c =
     let a = c.args in
     let answer = sym c.read.ensures.value ∙ c.in-Refused.is in
-    (c.refusal_number.ensures ∙ sym (ap read_number answer), (c.read.ensures.out_after, sym (ap (λ (r : Read). read_length r a.length.now) answer)))
+    record {
+      value = c.refusal_number.ensures ∙ sym (ap read_number answer);
+      out_after = c.read.ensures.out_after;
+      length_after = sym (ap (λ (r : Read). read_length r a.length.now) answer);
+    }

@@ -12,19 +12,12 @@ returns c =
     let choices = a.choices.now in
     let price = a.price.now in
     let settled = a.settled.now in
-    let stored = c.store_answer.ensures in (
-      stored.value ∙ ap answer_number gave.value,
-      (
-        gave.list_after,
-        (
-          gave.bytes_after,
-          (
-            gave.words_after,
-            (
-              stored.choices_after ∙ ap (λ (x : Answer). repair_choices x choices) gave.value,
-              (stored.price_after ∙ ap (λ (x : Answer). repair_price x price) gave.value, stored.settled_after ∙ ap (λ (x : Answer). repair_settled x settled) gave.value),
-            ),
-          ),
-        ),
-      ),
-    )
+    let stored = c.store_answer.ensures in record {
+      value = stored.value ∙ ap answer_number gave.value;
+      list_after = gave.list_after;
+      bytes_after = gave.bytes_after;
+      words_after = gave.words_after;
+      choices_after = stored.choices_after ∙ ap (λ (x : Answer). repair_choices x choices) gave.value;
+      price_after = stored.price_after ∙ ap (λ (x : Answer). repair_price x price) gave.value;
+      settled_after = stored.settled_after ∙ ap (λ (x : Answer). repair_settled x settled) gave.value;
+    }

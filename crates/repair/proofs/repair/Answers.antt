@@ -54,7 +54,12 @@ returns-then-words-v c =
 pub run-answer-requires : goal.run-answer-requires
 run-answer-requires c =
     let k = c.before.before.before.before.before.before in
-    (ok_at k, (omega (arith, steps-at k), (omega (arith, c.variable_count-v.ensures), c.variable_count-v.ensures)))
+    record {
+      table_value = ok_at k;
+      table_in_bounds = omega (arith, steps-at k);
+      table_in_bounds_2 = omega (arith, c.variable_count-v.ensures);
+      cells_value = c.variable_count-v.ensures;
+    }
 
 pub returns : goal.returns
 returns c =
@@ -64,16 +69,12 @@ returns c =
     let count = variable_formula (table_of t) in
     let v = c.variable_count-v.ensures in
     let fits = long_enough t a.list.now a.bytes.now a.words.now (ok_at k) (omega (arith, steps-at k)) (omega (arith, v)) (omega (arith, v)) in
-    let done = left t a.cap a.list.now a.bytes.now a.words.now Accepted fits in (
-      c.run-answer.ensures.value ∙ done.0,
-      (
-        c.run-answer.ensures.list_after ∙ done.1.0,
-        (
-          c.clear_bytes.ensures ∙ ap (λ (n : ℕ). cleared n a.bytes.now) v ∙ done.1.1.0,
-          c.clear_words.ensures
+    let done = left t a.cap a.list.now a.bytes.now a.words.now Accepted fits in record {
+      value = c.run-answer.ensures.value ∙ done.0;
+      list_after = c.run-answer.ensures.list_after ∙ done.1.0;
+      bytes_after = c.clear_bytes.ensures ∙ ap (λ (n : ℕ). cleared n a.bytes.now) v ∙ done.1.1.0;
+      words_after = c.clear_words.ensures
               ∙ ap (λ (n : ℕ). cleared n c.run-answer.new.words.1.1.0) v
               ∙ ap (λ (rest : List ℕ). take count (replicate count 0) ++ rest) c.run-answer.ensures.words_unchanged
-              ∙ done.1.1.1,
-        ),
-      ),
-    )
+              ∙ done.1.1.1;
+    }

@@ -60,7 +60,10 @@ pub report_table-requires : goal.report_table-requires
 report_table-requires c =
     let k = c.before.before.before in
     let s = start (read k) in
-    (accepted k, room_as s.args.out.now 0 _ _ (text-is (read k) _ c.in-Length.is) (text_room s.args.text.now s.args.out.now s.pre))
+    record {
+      table_value = accepted k;
+      room = room_as s.args.out.now 0 _ _ (text-is (read k) _ c.in-Length.is) (text_room s.args.text.now s.args.out.now s.pre);
+    }
 
 pub write_refused-requires-in-Refused : goal.write_refused-requires-in-Refused
 write_refused-requires-in-Refused c =

@@ -22,7 +22,10 @@ write_result-requires c =
     let table = s.args.table.now in
     let few = (counts_within (counts_of table) (header_accepted table s.pre.0).0).few_steps in
     let size = c.repair-answer.auto.1.1.0 in
-    (omega (arith, few, size), room_as s.args.out.now 0 _ _ (same_text k) s.pre.1)
+    record {
+      table_in_bounds = omega (arith, few, size);
+      room = room_as s.args.out.now 0 _ _ (same_text k) s.pre.1;
+    }
 
 pub returns : goal.returns
 returns c = stored_as _ _ _ _ _ _ (same_text c.before.before.before.before.before.before.before.before) c.write_result.ensures

@@ -41,7 +41,10 @@ returns-then-table-packed_length c =
 pub check_sections-requires : goal.check_sections-requires
 check_sections-requires c =
     let w = counts_within c.counts_of-c.result (sym c.counts_fit.ensures ∙ c.if-not-counts_fit.false) in
-    (c.counts_of-c.ensures, (w.few_states, w.few_props))
+    record {
+      c_value = c.counts_of-c.ensures;
+      states_bound = (w.few_states, w.few_props);
+    }
 
 pub returns : goal.returns
 unfolding table_verdict

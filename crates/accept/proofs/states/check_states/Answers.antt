@@ -1,6 +1,5 @@
 -- `check_states` meets its contract. The loop's invariant: the records before i fit, and what was found says whether one of them is initial.
 use mathlib.Core.Bool.{Bool, true, false, ◌&&◌, ◌||◌}
-use mathlib.Core.Logic.{⊎_elim}
 use Rattle.table.specs.declared.refusal.Refusal.TheVariants.{StateRecord, NoInitial}
 use Rattle.table.specs.Verdict.{require, ◌then◌}
 use Prim.Native.Nat.{◌+◌, zero-le}
@@ -12,6 +11,7 @@ use Rattle.table.specs.Accept.{all, any, state_fits, is_initial}
 use Rattle.table.proofs.Records.{records_done}
 use Rattle.table.proofs.Scan.{record_all, record_any}
 use Rattle.accept.proofs.states.check_states.Goals as goal
+use Rattle.accept.proofs.states.check_states.Goals.{then-found, else-found}
 
 pub loop-i-init : goal.loop-i-init
 loop-i-init c = (zero-le, refl, refl)
@@ -41,13 +41,14 @@ loop-i-preserved c =
     let rest = any is_initial (drop (i + 1) xs) in
     let inv = c.loop-i.invariant.2 in
     let found : any is_initial xs ≡ c.if-found.found || rest =
-    ⊎_elim
-    (λ w. inv ∙ ap (λ (b : Bool). b || any is_initial (drop i xs)) w.0.taken ∙ sym (ap (λ (b : Bool). b || rest) (w.1 ∙ w.0.taken)))
-    (λ w. inv
-    ∙ ap (λ (b : Bool). b || any is_initial (drop i xs)) w.0.left
-    ∙ record_any state_of state_width a.n a.section.now i h x here is_initial
-    ∙ sym (ap (λ (b : Bool). b || rest) w.2))
-    c.if-found.branch
+    elim c.if-found.branch as (λ _. any is_initial xs ≡ c.if-found.found || rest) [
+      | then-found w ↦ inv ∙ ap (λ (b : Bool). b || any is_initial (drop i xs)) w.if-found.true ∙ sym (ap (λ (b : Bool). b || rest) (w.found-is ∙ w.if-found.true))
+      | else-found w ↦
+          inv
+          ∙ ap (λ (b : Bool). b || any is_initial (drop i xs)) w.if-found.false
+          ∙ record_any state_of state_width a.n a.section.now i h x here is_initial
+          ∙ sym (ap (λ (b : Bool). b || rest) w.found-is)
+    ]
     in
     (omega arith, c.loop-i.invariant.1 ∙ record_all state_of state_width a.n a.section.now i h x here (state_fits a.p) ∙ ap (λ (b : Bool). b && all (state_fits a.p) (drop (i + 1) xs)) fits, found)
 

@@ -7,7 +7,6 @@ use Prim.Native.Nat.{ℕ, ◌+◌, ◌≤◌, ◌<◌, zero-le}
 use mathlib.Core.Path.{◌≡◌, refl, sym, ap, ◌∙◌}
 use mathlib.Core.Bool.{Bool, true, false, not, ◌&&◌, ◌||◌}
 use mathlib.Core.List.{List, [], ◌∷◌, ◌++◌}
-use mathlib.Core.Logic.{⊎_elim}
 use native.Mathlib.Omega.{arith}
 use borrow.Author.Tests.{not-true, not-false}
 use Rattle.table.specs.declared.record.Step.{Step}
@@ -20,6 +19,7 @@ use Rattle.table.proofs.Scan.{record_all, record_take}
 use Rattle.table.proofs.Rows.{rows_none, rows_more, repeated_more}
 use Rattle.table.specs.Rows.{Rows}
 use Rattle.accept.proofs.steps.check_steps.Goals as goal
+use Rattle.accept.proofs.steps.check_steps.Goals.{then-repeated, else-repeated}
 
 -- what a step that fits says of its ends
 ends : (n : ℕ) (x : Step) (b : Bool) → n ≤ 32 → b ≡ step_fits n x → b ≡ true → (x.from < 32) × (x.to < 32)
@@ -75,10 +75,10 @@ loop-j-preserved c =
     let whole : not (distinct (take (j + 1) xs)) ≡ c.loop-j.repeated || member (get_or rows x.from 0) x.to =
     rw seam (repeated_more rows (take j xs) g x in_range.0 in_range.1 ∙ ap (λ (b : Bool). b || member (get_or rows x.from 0) x.to) (sym c.loop-j.invariant.3)) in
     let again : c.if-repeated.repeated ≡ not (distinct (take (j + 1) xs)) =
-    ⊎_elim
-    (λ w. w.1 ∙ w.0.taken ∙ sym (whole ∙ ap (λ (b : Bool). b || member (get_or rows x.from 0) x.to) w.0.taken))
-    (λ w. w.2 ∙ w.1.ensures ∙ sym (whole ∙ ap (λ (b : Bool). b || member (get_or rows x.from 0) x.to) w.0.left))
-    c.if-repeated.branch in (
+    elim c.if-repeated.branch as (λ _. c.if-repeated.repeated ≡ not (distinct (take (j + 1) xs))) [
+      | then-repeated w ↦ w.repeated-is ∙ w.if-repeated.true ∙ sym (whole ∙ ap (λ (b : Bool). b || member (get_or rows x.from 0) x.to) w.if-repeated.true)
+      | else-repeated w ↦ w.repeated-is ∙ w.contains-repeated.ensures ∙ sym (whole ∙ ap (λ (b : Bool). b || member (get_or rows x.from 0) x.to) w.if-repeated.false)
+    ] in (
       omega arith,
       c.loop-j.invariant.1 ∙ record_all step_of step_width a.e l j h x here (step_fits a.n) ∙ ap (λ (b : Bool). b && all (step_fits a.n) (drop (j + 1) xs)) (sym c.step_fits.ensures ∙ fits),
       more,

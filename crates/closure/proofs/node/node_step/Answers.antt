@@ -65,10 +65,11 @@ pair_step-requires-in-5 c =
 pub fixpoint_step-requires : goal.fixpoint_step-requires
 fixpoint_step-requires c =
     let p = c.requires.i_bound in
-    let second = c.second_child-b in (
-      (p.0, (p.1.0, (omega (arith, second.ensures, second_below c.args.x 32 p.1.0 p.1.1.0), p.1.1.1))),
-      (c.requires.n_bound, c.requires.n_in_bounds (omega arith)),
-    )
+    let second = c.second_child-b in record {
+      i_bound = (p.0, (p.1.0, (omega (arith, second.ensures, second_below c.args.x 32 p.1.0 p.1.1.0), p.1.1.1)));
+      n_bound = c.requires.n_bound;
+      n_in_bounds = c.requires.n_in_bounds (omega arith);
+    }
 
 pub returns-in-1 : goal.returns-in-1
 unfolding node_step

@@ -43,16 +43,14 @@ overflow_sub-i-then-down c = omega arith
 
 pub node_visit-r-requires : goal.node_visit-r-requires
 node_visit-r-requires c =
-    let l = c.loop-k in (
-      c.requires.setting,
-      (
-        l.invariant.3.advance.sized,
-        (
+    let l = c.loop-k in record {
+      setting = c.requires.setting;
+      sized = l.invariant.3.advance.sized;
+      looks_len = (
           l.invariant.3.size ∙ c.requires.looks_len,
           rw (turn c) (ordered-below c.args.down c.args.net.nodes l.k c.loop-k-test.true),
-        ),
-      ),
-    )
+        );
+    }
 
 pub returns-then-report : goal.returns-then-report
 returns-then-report c = looked_failed c.if-report.true (now-looked c.before)

@@ -53,13 +53,17 @@ loop-net-init c =
     )
 
 pub sweep_once-r-requires : goal.sweep_once-r-requires
-sweep_once-r-requires c = let l = c.loop-net in (c.requires.setting, (l.invariant.0.sized, l.invariant.1))
+sweep_once-r-requires c = let l = c.loop-net in record {
+      setting = c.requires.setting;
+      sized = l.invariant.0.sized;
+      looks_len = l.invariant.1;
+    }
 
 pub returns-then-r : goal.returns-then-r
-returns-then-r c = (
-  closed_failing (table_of c.args.table.now) c.loop-net.invariant.0 (went c.before.before.before.before.before.before).advance c.if-r.true,
-  λ e. absurd (true≢false e),
-)
+returns-then-r c = record {
+      closed = closed_failing (table_of c.args.table.now) c.loop-net.invariant.0 (went c.before.before.before.before.before.before).advance c.if-r.true;
+      rest_but_2 = λ e. absurd (true≢false e);
+    }
 
 pub settled_steps-requires : goal.settled_steps-requires
 settled_steps-requires c = (c.requires.setting.accepted, (went c.before.before.before.before.before.before.before.before.before).advance.sized.rows_size)
@@ -70,12 +74,12 @@ returns-then-not-r c =
     let w = went c.before.before.before.before.before.before.before.before.before.before in
     let f = c.if-r.false in
     let calm = not-true _ c.if-not-r.true in
-    let same = w.advance.unchanged calm in (
-      closed_resting T (wellformed c.requires.setting) c.settled_steps.result c.loop-net.invariant.0
+    let same = w.advance.unchanged calm in record {
+      closed = closed_resting T (wellformed c.requires.setting) c.settled_steps.result c.loop-net.invariant.0
           (advance_so T {Q = Rest T} (λ z. all_rest T (wellformed c.requires.setting) (memory c.loop-net.rows c.loop-net.words) z (subst (λ (M : Memory). RestBut T 0 (knowledge T M)) same (rests c))) w.advance)
-          f calm c.settled_steps.ensures,
-      λ e. rests c,
-    )
+          f calm c.settled_steps.ensures;
+      rest_but_2 = λ e. rests c;
+    }
 
 pub loop-net-smaller : goal.loop-net-smaller
 loop-net-smaller c =

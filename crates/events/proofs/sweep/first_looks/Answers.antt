@@ -13,7 +13,11 @@ all_bits : (k s : ℕ) → k < 33 → s < 32 → member (get_or (replicate 33 42
 all_bits k s h l = ap (λ (w : ℕ). member w s) (get_or-replicate {A = ℕ} 33 k 4294967295 0 h) ∙ member-ones 32 s ∙ lt-ltb s 32 l
 
 pub returns-then-fresh : goal.returns-then-fresh
-returns-then-fresh c = (refl, (λ e. all_bits, λ e. absurd (true≢false (sym c.if-fresh.true ∙ e))))
+returns-then-fresh c = record {
+      result_len = refl;
+      s_value = λ e. all_bits;
+      steps_marked = λ e. absurd (true≢false (sym c.if-fresh.true ∙ e));
+    }
 
 pub mark_steps-requires : goal.mark_steps-requires
 mark_steps-requires c = (c.requires, refl)
@@ -21,4 +25,8 @@ mark_steps-requires c = (c.requires, refl)
 pub returns : goal.returns
 returns c =
     let m = c.mark_steps in
-    (m.auto.1.0, (λ e. absurd (true≢false (sym e ∙ c.if-fresh.false)), λ e. m.ensures.steps_marked))
+    record {
+      result_len = m.auto.1.0;
+      s_value = λ e. absurd (true≢false (sym e ∙ c.if-fresh.false));
+      steps_marked = λ e. m.ensures.steps_marked;
+    }

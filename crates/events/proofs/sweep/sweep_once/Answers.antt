@@ -31,7 +31,10 @@ starts-looked c =
     (looked_so (λ f k e. inl e) (λ z. z.1) (looked_then first (v.ensures c.args.words.now first.advance.sized)))
 
 pub kept_visit-first-requires : goal.kept_visit-first-requires
-kept_visit-first-requires c = let p = c.requires in (p.setting, (p.sized.rows_size, p.looks_len))
+kept_visit-first-requires c = let p = c.requires in record {
+      setting = p.setting;
+      rows_len = (p.sized.rows_size, p.looks_len);
+    }
 
 pub returns-then-first : goal.returns-then-first
 returns-then-first c = looked_failed c.if-first.true (kept-looked c.before.before.before.before.before)
@@ -40,7 +43,10 @@ pub start_visit-requires : goal.start_visit-requires
 start_visit-requires c =
     let v = c.kept_visit-first in
     let p = c.requires in
-    (p.setting, (v.auto.1.1.1.1.1.0 ∙ p.sized.rows_size, v.auto.1.1.1.1.1.1.0 ∙ p.looks_len))
+    record {
+      setting = p.setting;
+      rows_len = (v.auto.1.1.1.1.1.0 ∙ p.sized.rows_size, v.auto.1.1.1.1.1.1.0 ∙ p.looks_len);
+    }
 
 pub returns-then-second : goal.returns-then-second
 returns-then-second c = looked_failed c.if-second.true (starts-looked c.before)
@@ -49,7 +55,11 @@ pub nodes_visit-requires : goal.nodes_visit-requires
 nodes_visit-requires c =
     let p = c.requires in
     let first = starts-looked c.before.before.before.before in
-    (p.setting, (first.advance.sized, first.size ∙ p.looks_len))
+    record {
+      setting = p.setting;
+      sized = first.advance.sized;
+      looks_len = first.size ∙ p.looks_len;
+    }
 
 pub returns : goal.returns
 returns c =

@@ -22,7 +22,10 @@ pub kept_states-report-requires : goal.kept_states-report-requires
 kept_states-report-requires c =
     let p = c.requires in
     let a = c.args in
-    (p.setting, (p.rows_len.0, word_inside (table_of a.table.now) (get_or a.looks.now 32 0) c.below.result (c.below.ensures ∙ ap (λ (n : ℕ). set_of 32 (λ t. ltb t n)) (states_are p.setting))))
+    record {
+      setting = p.setting;
+      rows_len = (p.rows_len.0, word_inside (table_of a.table.now) (get_or a.looks.now 32 0) c.below.result (c.below.ensures ∙ ap (λ (n : ℕ). set_of 32 (λ t. ltb t n)) (states_are p.setting)));
+    }
 
 pub bounds-looks-32-then-is_quiet : goal.bounds-looks-32-then-is_quiet
 bounds-looks-32-then-is_quiet c = omega (arith, c.requires.rows_len.1)

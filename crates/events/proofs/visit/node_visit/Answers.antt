@@ -84,13 +84,11 @@ pub node_step-report-requires : goal.node_step-report-requires
 node_step-report-requires c =
     let s = c.before.before.before.before.before.before.before.before.before.before.before.before.before.before.before.before.before.before.before.before.before.before in
     let r = read c.before.before.before.before.before.before.before.before.before.before in
-    let g = c.requires.setting in (
-      (low s, (r.a_below, (r.b_below, c.requires.sized.rows_size))),
-      (
-        (few_states g, g.targets_size),
-        λ k. le_trans (levels_in g c.args.i c.requires.looks_len.1 c.node_at-x.result r.here k) c.requires.sized.words_size,
-      ),
-    )
+    let g = c.requires.setting in record {
+      i_bound = (low s, (r.a_below, (r.b_below, c.requires.sized.rows_size)));
+      n_bound = (few_states g, g.targets_size);
+      n_in_bounds = λ k. le_trans (levels_in g c.args.i c.requires.looks_len.1 c.node_at-x.result r.here k) c.requires.sized.words_size;
+    }
 
 pub offset_bounds-looks-i-then-is_quiet : goal.offset_bounds-looks-i-then-is_quiet
 offset_bounds-looks-i-then-is_quiet c = omega (arith, low c.before.before.before.before.before.before.before.before.before.before.before.before.before.before.before.before.before.before.before.before.before.before.before.before.before.before.before.before.before)

@@ -10,4 +10,7 @@ returns c =
     let a = c.args in
     let marked = c.mark_node.ensures in
     let is = c.grown_at.ensures ∙ ap (λ (new : Row). grown a.old new) c.node_row.ensures in
-    (marked.raised, subst (λ (set : ℕ). NodeMarked a.readers.now c.mark_node.new.looks.1.0 a.c set) is marked.node_marked)
+    record {
+      raised = marked.raised;
+      node_marked = subst (λ (set : ℕ). NodeMarked a.readers.now c.mark_node.new.looks.1.0 a.c set) is marked.node_marked;
+    }

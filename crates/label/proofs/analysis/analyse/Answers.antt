@@ -82,7 +82,11 @@ analysed-requires c =
     let t = a.table.now in
     let l = a.list.now in
     let k = c.counts_of-c in
-    (table-passed c.before.before.before.before.before.before, (list_length (length (table_of t).steps) l (list-passed c.before.before), (states_are t k.result k.ensures, nodes_are t k.result k.ensures)))
+    record {
+      table_value = table-passed c.before.before.before.before.before.before;
+      list_len = list_length (length (table_of t).steps) l (list-passed c.before.before);
+      n_value = (states_are t k.result k.ensures, nodes_are t k.result k.ensures);
+    }
 
 pub returns : goal.returns
 returns c =

@@ -55,12 +55,12 @@ returns c =
     let E = c.analyse-a.ensures in
     let ok = c.in_default.is in
     let v = sym (verdict_is (States n) t l A E) ∙ ok in
-    let root = root_is (States n) t l A E ok in (
-      ap Count (c.count.ensures ∙ count_is t l n A E ok A.root root) ∙ sym (ap (λ (x : Verdict). holding_at x (length (held_states (table_of t) l))) v),
-      c.write_states.ensures
+    let root = root_is (States n) t l A E ok in record {
+      value = ap Count (c.count.ensures ∙ count_is t l n A E ok A.root root) ∙ sym (ap (λ (x : Verdict). holding_at x (length (held_states (table_of t) l))) v);
+      out_after = c.write_states.ensures
           ∙ ap (λ (xs : List ℕ). xs ++ drop (length xs) out) (states_are t l n A E ok A.initial A.root (initial_is (States n) t l A E ok) root)
-          ∙ sym (ap (λ (x : Verdict). on_accepted x (held_states (table_of t) l ++ drop (length (held_states (table_of t) l)) out) out) v),
-    )
+          ∙ sym (ap (λ (x : Verdict). on_accepted x (held_states (table_of t) l ++ drop (length (held_states (table_of t) l)) out) out) v);
+    }
 
 pub returns-in-Refused : goal.returns-in-Refused
 returns-in-Refused c =
@@ -69,10 +69,10 @@ returns-in-Refused c =
     let l = a.list.now in
     let out = a.out.now in
     let v = verdict_is (States (length out)) t l c.analyse-a.result c.analyse-a.ensures in
-    let refused = sym v ∙ c.in-Refused.is in (
-      sym (ap (λ (w : Verdict). holding_at w (length (held_states (table_of t) l))) refused),
-      sym (ap (λ (w : Verdict). on_accepted w (held_states (table_of t) l ++ drop (length (held_states (table_of t) l)) out) out) refused),
-    )
+    let refused = sym v ∙ c.in-Refused.is in record {
+      value = sym (ap (λ (w : Verdict). holding_at w (length (held_states (table_of t) l))) refused);
+      out_after = sym (ap (λ (w : Verdict). on_accepted w (held_states (table_of t) l ++ drop (length (held_states (table_of t) l)) out) out) refused);
+    }
 
 pub write_states-requires : goal.write_states-requires
 write_states-requires c =

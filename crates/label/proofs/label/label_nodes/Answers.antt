@@ -41,17 +41,20 @@ returns-in-Refused c =
     let l = a.list.now in
     let out = a.out.now in
     let v = verdict_is (Nodes (length out)) t l c.analyse-a.result c.analyse-a.ensures in
-    (v, sym (ap (λ (w : Verdict). on_accepted w (over (length (table_of t).nodes) (label_words (table_of t) l) out) out) (sym v ∙ c.in-Refused.is)))
+    record {
+      value = v;
+      out_after = sym (ap (λ (w : Verdict). on_accepted w (over (length (table_of t).nodes) (label_words (table_of t) l) out) out) (sym v ∙ c.in-Refused.is));
+    }
 
 pub write_words-requires : goal.write_words-requires
 write_words-requires c =
     let a = c.args in
     let t = a.table.now in
     let l = a.list.now in
-    let ok = c.in_default.is in (
-      fits t l (length a.out.now) c.analyse-a.result c.analyse-a.ensures ok c.counts_of-c.result c.counts_of-c.ensures,
-      words_length t l (length a.out.now) c.analyse-a.result c.analyse-a.ensures ok,
-    )
+    let ok = c.in_default.is in record {
+      k_bound = fits t l (length a.out.now) c.analyse-a.result c.analyse-a.ensures ok c.counts_of-c.result c.counts_of-c.ensures;
+      words_len = words_length t l (length a.out.now) c.analyse-a.result c.analyse-a.ensures ok;
+    }
 
 pub returns : goal.returns
 returns c =
@@ -62,9 +65,9 @@ returns c =
     let A = c.analyse-a.result in
     let E = c.analyse-a.ensures in
     let ok = c.in_default.is in
-    let v = verdict_is (Nodes (length out)) t l A E in (
-      v,
-      c.write_words.ensures
+    let v = verdict_is (Nodes (length out)) t l A E in record {
+      value = v;
+      out_after = c.write_words.ensures
           ∙ (λ j. over (nodes_are t l (length out) A E ok c.counts_of-c.result c.counts_of-c.ensures j) (words_are (Nodes (length out)) t l A E ok j) out)
-          ∙ sym (ap (λ (w : Verdict). on_accepted w (over (length (table_of t).nodes) (label_words (table_of t) l) out) out) (sym v ∙ ok)),
-    )
+          ∙ sym (ap (λ (w : Verdict). on_accepted w (over (length (table_of t).nodes) (label_words (table_of t) l) out) out) (sym v ∙ ok));
+    }

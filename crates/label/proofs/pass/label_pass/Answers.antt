@@ -47,7 +47,10 @@ node_states-requires c =
     let q = counted l c.requires.table_value c.counts_of-c.result k in
     let h : c.loop-i.i < (counts_of l).nodes = omega (arith, ap (λ (y : Counts). y.nodes) k) in
     let r = read_node l c.requires.table_value c.loop-i.i h c.nodes_part-nodes.result.now c.nodes_part-nodes.ensures c.node_at.result c.node_at.ensures in
-    (q.2, (r.a_below, r.b_below))
+    record {
+      n_bound = q.2;
+      a_bound = (r.a_below, r.b_below);
+    }
 
 pub offset_bounds-next-i : goal.offset_bounds-next-i
 offset_bounds-next-i c =

@@ -82,7 +82,10 @@ pub readers_of-readers-requires : goal.readers_of-readers-requires
 readers_of-readers-requires c =
     let sets = c.target_sets-targets.ensures in
     let T = table_of c.args.table.now in
-    (c.requires.table_value, (ap length sets ∙ targets-length T.steps, λ k h. ap (λ (l : List ℕ). get_or l k 0) sets ∙ targets_at T.steps k h))
+    record {
+      table_value = c.requires.table_value;
+      targets_len = (ap length sets ∙ targets-length T.steps, λ k h. ap (λ (l : List ℕ). get_or l k 0) sets ∙ targets_at T.steps k h);
+    }
 
 pub slice_bounds-search_table-end-4 : goal.slice_bounds-search_table-end-4
 slice_bounds-search_table-end-4 c = cells_fit c.before.before.before.before.before.before.before.before.before.before.before.before.before
@@ -98,7 +101,12 @@ search_table-requires c =
     let bases = c.level_bases-b.ensures in
     let fit = levels_fit T (accepted c.args.table.now c.requires.table_value).table in
     let setting = setting_of c.args.table.now c.requires.table_value c.net_of-net.ensures targets bases c.readers_of-readers.ensures in
-    (setting, (bases.total, (omega (arith, fit, part_length start, c.requires.cells_value), c.requires.table_in_bounds)))
+    record {
+      setting = setting;
+      levels_value = bases.total;
+      table_in_bounds = omega (arith, fit, part_length start, c.requires.cells_value);
+      table_in_bounds_2 = c.requires.table_in_bounds;
+    }
 
 pub slice_bounds-strike_unreached-end : goal.slice_bounds-strike_unreached-end
 slice_bounds-strike_unreached-end c = front_fits c
@@ -108,7 +116,11 @@ slice_bounds-strike_unreached-end-in-Found c = sym (length-take-le _ _ (front_fi
 
 pub strike_unreached-requires : goal.strike_unreached-requires
 strike_unreached-requires c =
-    (c.requires.table_value, (c.net_of-net.ensures, length-take-le _ _ (front_fits c.before) ∙ steps_count c.before))
+    record {
+      table_value = c.requires.table_value;
+      net_value = c.net_of-net.ensures;
+      list_len = length-take-le _ _ (front_fits c.before) ∙ steps_count c.before;
+    }
 
 pub returns-in-Found : goal.returns-in-Found
 returns-in-Found c =
@@ -118,7 +130,11 @@ returns-in-Found c =
     let list = c.args.list.now in
     let told = sym c.in-Found.is ∙ c.search_table.ensures.value in
     let struck = c.strike_unreached in
-    (ap carried told, (after_found T list _ (search_under T c.args.cap) _ _ _ c.counts_of-counts.result.steps told c.search_table.ensures.list_after (steps_count counts) struck.new.list.1.1.0 struck.ensures, beyond gave))
+    record {
+      value = ap carried told;
+      list_after = after_found T list _ (search_under T c.args.cap) _ _ _ c.counts_of-counts.result.steps told c.search_table.ensures.list_after (steps_count counts) struck.new.list.1.1.0 struck.ensures;
+      words_unchanged = beyond gave;
+    }
 
 pub returns-in-None : goal.returns-in-None
 returns-in-None c =
@@ -126,7 +142,11 @@ returns-in-None c =
     let T = table_of c.args.table.now in
     let list = c.args.list.now in
     let told = sym c.in-None.is ∙ c.search_table.ensures.value in
-    (ap carried told, (after_none T list _ (search_under T c.args.cap) _ _ told c.search_table.ensures.list_after, beyond gave))
+    record {
+      value = ap carried told;
+      list_after = after_none T list _ (search_under T c.args.cap) _ _ told c.search_table.ensures.list_after;
+      words_unchanged = beyond gave;
+    }
 
 pub returns-in-Spent : goal.returns-in-Spent
 returns-in-Spent c =
@@ -134,4 +154,8 @@ returns-in-Spent c =
     let T = table_of c.args.table.now in
     let list = c.args.list.now in
     let told = sym c.in-Spent.is ∙ c.search_table.ensures.value in
-    (ap carried told, (after_spent T list _ (search_under T c.args.cap) _ _ told c.search_table.ensures.list_after, beyond gave))
+    record {
+      value = ap carried told;
+      list_after = after_spent T list _ (search_under T c.args.cap) _ _ told c.search_table.ensures.list_after;
+      words_unchanged = beyond gave;
+    }

@@ -57,7 +57,10 @@ write_steps-requires c =
     let k = c.before.before.before.before in
     let s = start (answered k) in
     let count = ap (λ (x : Counts). x.steps) (answered k).before.before.before.Counts-of.ensures in
-    (omega (arith, count, s.pre.0), room_as c.put_bytes-at.new.text c.put_bytes-at.result _ _ (same_lines c.before) (left_room_all _ _ _ _ _ _ (named k) s.pre.1))
+    record {
+      count_in_bounds = omega (arith, count, s.pre.0);
+      room = room_as c.put_bytes-at.new.text c.put_bytes-at.result _ _ (same_lines c.before) (left_room_all _ _ _ _ _ _ (named k) s.pre.1);
+    }
 
 pub returns : goal.returns
 returns c =

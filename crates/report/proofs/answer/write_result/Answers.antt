@@ -12,7 +12,10 @@ told s a e = ap (λ (x : Answer). answer_text s.args.table.now x s.args.list.now
 pub write_found-requires : goal.write_found-requires
 write_found-requires c =
     let s = c.before.before.before.before.before.before.before in
-    (c.requires.table_in_bounds, room_as c.args.out.now 0 _ _ (told s _ c.in-Found.is) c.requires.room)
+    record {
+      table_in_bounds = c.requires.table_in_bounds;
+      room = room_as c.args.out.now 0 _ _ (told s _ c.in-Found.is) c.requires.room;
+    }
 
 pub write_answer-requires : goal.write_answer-requires
 write_answer-requires c =

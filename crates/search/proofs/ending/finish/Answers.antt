@@ -22,7 +22,10 @@ pub returns-in-Unfound : goal.returns-in-Unfound
 returns-in-Unfound c =
     let a = c.args in
     let w : a.walked ≡ Passed Unfound c.in-Passed.made = c.in-Passed.is ∙ ap (λ (b : Best). Passed b c.in-Passed.made) c.in-Unfound.is in
-    (sym (ap (finished a.settled) w), sym (ap (λ (x : Walked). written (length (table_of a.table.now).steps) x a.find.now a.list.now) w))
+    record {
+      value = sym (ap (finished a.settled) w);
+      list_after = sym (ap (λ (x : Walked). written (length (table_of a.table.now).steps) x a.find.now a.list.now) w);
+    }
 
 pub returns-in-Cheapest : goal.returns-in-Cheapest
 returns-in-Cheapest c =
@@ -30,15 +33,18 @@ returns-in-Cheapest c =
     let made = c.in-Passed.made in
     let price = c.in-Cheapest.price in
     let w : a.walked ≡ Passed (Cheapest price) made = c.in-Passed.is ∙ ap (λ (b : Best). Passed b made) c.in-Cheapest.is in
-    let e = steps_are a.table.now c.counts_of-c.result c.counts_of-c.ensures in (
-      sym (ap (finished a.settled) w),
-      c.copy_front.ensures
+    let e = steps_are a.table.now c.counts_of-c.result c.counts_of-c.ensures in record {
+      value = sym (ap (finished a.settled) w);
+      list_after = c.copy_front.ensures
           ∙ ap (λ (k : ℕ). over k a.find.now a.list.now) e
-          ∙ sym (ap (λ (x : Walked). written (length (table_of a.table.now).steps) x a.find.now a.list.now) w),
-    )
+          ∙ sym (ap (λ (x : Walked). written (length (table_of a.table.now).steps) x a.find.now a.list.now) w);
+    }
 
 pub returns-in-Cut : goal.returns-in-Cut
 returns-in-Cut c =
     let a = c.args in
     let w = c.in-Cut.is in
-    (sym (ap (finished a.settled) w), sym (ap (λ (x : Walked). written (length (table_of a.table.now).steps) x a.find.now a.list.now) w))
+    record {
+      value = sym (ap (finished a.settled) w);
+      list_after = sym (ap (λ (x : Walked). written (length (table_of a.table.now).steps) x a.find.now a.list.now) w);
+    }

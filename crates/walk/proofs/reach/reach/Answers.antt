@@ -4,11 +4,19 @@ use Rattle.walk.proofs.reach.reach.Goals as goal
 
 pub close-closed-requires : goal.close-closed-requires
 close-closed-requires c =
-    (c.requires.setting, (c.requires.sized, (c.requires.founded, c.requires.rest_but)))
+    record {
+      setting = c.requires.setting;
+      sized = c.requires.sized;
+      founded = c.requires.founded;
+      rest_but = c.requires.rest_but;
+    }
 
 pub assess-requires : goal.assess-requires
 assess-requires c =
-    ((c.requires.setting.accepted, c.close-closed.ensures.closed.sized.rows_size), c.requires.table_in_bounds)
+    record {
+      table_value = (c.requires.setting.accepted, c.close-closed.ensures.closed.sized.rows_size);
+      table_in_bounds = c.requires.table_in_bounds;
+    }
 
 pub returns : goal.returns
 returns c =

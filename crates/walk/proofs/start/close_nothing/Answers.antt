@@ -22,15 +22,18 @@ module _ (T : Table) (rows words : List ℕ) (k : ℕ) (no_step : rows ≡ repli
 pub close-requires : goal.close-requires
 close-requires c =
     let T = table_of c.args.table.now in
-    let k = length c.args.words.now in (
-      c.requires.setting,
-      (
-        nothing_sized T _ _ k c.requires.rows_value c.zero.ensures c.requires.table_in_bounds,
-        (([], (nothing_between T _ _ k c.requires.rows_value c.zero.ensures).below), λ e. absurd (true≢false e)),
-      ),
-    )
+    let k = length c.args.words.now in record {
+      setting = c.requires.setting;
+      sized = nothing_sized T _ _ k c.requires.rows_value c.zero.ensures c.requires.table_in_bounds;
+      founded = ([], (nothing_between T _ _ k c.requires.rows_value c.zero.ensures).below);
+      rest_but = λ e. absurd (true≢false e);
+    }
 
 pub returns : goal.returns
 returns c =
     let between = nothing_between (table_of c.args.table.now) _ _ (length c.args.words.now) c.requires.rows_value c.zero.ensures in
-    (c.close.ensures.closed.sized, (c.close.ensures.closed.closes [] between, c.close.ensures.rest_but_2))
+    record {
+      sized = c.close.ensures.closed.sized;
+      closes = c.close.ensures.closed.closes [] between;
+      resting = c.close.ensures.rest_but_2;
+    }

@@ -11,28 +11,33 @@ use Rattle.walk.proofs.start.search_table.Goals as goal
 
 pub close_nothing-closed-requires : goal.close_nothing-closed-requires
 close_nothing-closed-requires c =
-    (c.requires.setting, (refl, c.requires.table_in_bounds))
+    record {
+      setting = c.requires.setting;
+      rows_value = refl;
+      table_in_bounds = c.requires.table_in_bounds;
+    }
 
 pub walk_table-walked-requires : goal.walk_table-walked-requires
 walk_table-walked-requires c =
-    let e = c.close_nothing-closed.ensures in (
-      record {
+    let e = c.close_nothing-closed.ensures in record {
+      handed = record {
         setting = c.requires.setting;
         all-levels = c.requires.levels_value;
         rows_size = e.sized.rows_size;
         small_rows = e.sized.small_rows;
         words_size = omega (arith, c.close_nothing-closed.auto.1.1.1.1.1.1.0, c.requires.table_in_bounds);
         room = (accepted c.args.table.now c.requires.setting.accepted).table.few_steps;
-      },
-      (e.closes, e.resting),
-    )
+      };
+      closes = e.closes;
+      resting = e.resting;
+    }
 
 pub finish-requires : goal.finish-requires
 finish-requires c =
-    (
-      c.requires.setting.accepted,
-      (omega (arith, c.walk_table-walked.auto.1.1.1.1.1.1.1.1.1.0, (accepted c.args.table.now c.requires.setting.accepted).table.few_steps), c.requires.table_in_bounds_2),
-    )
+    record {
+      table_value = c.requires.setting.accepted;
+      table_in_bounds = (omega (arith, c.walk_table-walked.auto.1.1.1.1.1.1.1.1.1.0, (accepted c.args.table.now c.requires.setting.accepted).table.few_steps), c.requires.table_in_bounds_2);
+    }
 
 pub returns : goal.returns
 returns c =
@@ -40,10 +45,8 @@ returns c =
     let wf = (accepted c.args.table.now c.requires.setting.accepted).table in
     let r = c.walk_table-walked.result in
     let find = c.walk_table-walked.new.words.1.1.1.1.1.1.1.1.0 in
-    let settled = settled_only T wf [] (closure-is_right T wf).fine_none c.close_nothing-closed.result.settled c.close_nothing-closed.ensures.closes.settled in (
-      c.finish.ensures.value ∙ start_answer T c.args.cap find r c.walk_table-walked.ensures c.close_nothing-closed.result.settled settled,
-      (
-        c.finish.ensures.list_after ∙ start_list T c.args.cap find r c.walk_table-walked.ensures c.args.list.now,
-        c.walk_table-walked.auto.1.1.1.1.1.1.1.1.1.1.0 ∙ c.close_nothing-closed.auto.1.1.1.1.1.1.0,
-      ),
-    )
+    let settled = settled_only T wf [] (closure-is_right T wf).fine_none c.close_nothing-closed.result.settled c.close_nothing-closed.ensures.closes.settled in record {
+      value = c.finish.ensures.value ∙ start_answer T c.args.cap find r c.walk_table-walked.ensures c.close_nothing-closed.result.settled settled;
+      list_after = c.finish.ensures.list_after ∙ start_list T c.args.cap find r c.walk_table-walked.ensures c.args.list.now;
+      words_len_unchanged = c.walk_table-walked.auto.1.1.1.1.1.1.1.1.1.1.0 ∙ c.close_nothing-closed.auto.1.1.1.1.1.1.0;
+    }

@@ -19,7 +19,10 @@ comes c =
     c.assess.ensures c.args.words.now [] unfound (closure-is_right (table_of c.args.table.now) (handed_table c.requires.handed)).fine_none c.requires.closes c.requires.resting tt
 
 pub assess-requires : goal.assess-requires
-assess-requires c = ((c.requires.handed.setting.accepted, c.requires.handed.rows_size), c.requires.handed.room)
+assess-requires c = record {
+      table_value = (c.requires.handed.setting.accepted, c.requires.handed.rows_size);
+      table_in_bounds = c.requires.handed.room;
+    }
 
 pub both_ways-requires : goal.both_ways-requires
 both_ways-requires c =
