@@ -1,11 +1,10 @@
 -- `levels_step` meets its contract: the first k of the levels, one after the other, in their order.
 use Prim.Native.Nat.{ℕ, suc, ◌+◌, ◌-◌, zero-le}
 use mathlib.Core.Path.{◌≡◌, refl, sym, ap, ◌∙◌}
-use mathlib.Core.Bool.{false}
+use mathlib.Core.Bool.{Bool, false}
+use mathlib.Core.List.{List}
 use native.Mathlib.Numerals.{add-one}
 use native.Mathlib.Omega.{arith}
-use mathlib.Core.Bool.{Bool}
-use mathlib.Core.List.{List}
 use Rattle.rows.specs.declared.row.Report.{Report}
 use Rattle.rows.specs.Words.{both_reports}
 use Rattle.propagate.specs.declared.level.Fixpoint.{Fixpoint}
