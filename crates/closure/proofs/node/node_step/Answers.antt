@@ -59,48 +59,47 @@ pub returns-in-1 : goal.returns-in-1
 unfolding node_step
 returns-in-1 c =
     let a = c.args in
-    λ bases e. added a.rows.now (node_place a.i) (c.constant_row.ensures ∙ ap (constant_row a.n) (c.below.ensures ∙ all-states a.n c.requires.n_bound.0)) c.add_node.ensures a.words.now
-    ∙ sym (ap ((let h : List ℕ → Operator → Stepped = λ bases o. node_step c.args.table.now c.args.targets.now bases c.args.n c.args.look c.args.down c.args.i o (memory c.args.rows.now c.args.words.now) in h) bases) (of_kind a.x 1 c.in-1.keys1))
+    λ bases e. added a.rows.now (node_place a.i) (c.constant_row.ensures ∙ ap (constant_row a.n) (c.below.ensures ∙ all-states a.n c.requires.n_bound.0)) c.add_node.ensures.value c.add_node.ensures.rows_after a.words.now
+    ∙ sym (ap (λ (o : Operator). node_step c.args.table.now c.args.targets.now bases c.args.n c.args.look c.args.down c.args.i o (memory c.args.rows.now c.args.words.now)) (of_kind a.x 1 c.in-1.is))
 
 pub returns-in-2 : goal.returns-in-2
 unfolding node_step
 returns-in-2 c =
     let a = c.args in
-    λ bases e. added a.rows.now (node_place a.i) (c.constant_row-in-2.ensures ∙ ap (constant_row a.n) (c.labelled_states-set.ensures ∙ ap (λ (l : List ℕ). labelled_word l a.n a.x.a) c.states_part.ensures)) c.add_node-in-2.ensures a.words.now
-    ∙ sym (ap ((let h : List ℕ → Operator → Stepped = λ bases o. node_step c.args.table.now c.args.targets.now bases c.args.n c.args.look c.args.down c.args.i o (memory c.args.rows.now c.args.words.now) in h) bases) (of_kind a.x 2 c.in-2.keys2))
+    λ bases e. added a.rows.now (node_place a.i) (c.constant_row-in-2.ensures ∙ ap (constant_row a.n) (c.labelled_states-set.ensures ∙ ap (λ (l : List ℕ). labelled_word l a.n a.x.a) c.states_part.ensures)) c.add_node-in-2.ensures.value c.add_node-in-2.ensures.rows_after a.words.now
+    ∙ sym (ap (λ (o : Operator). node_step c.args.table.now c.args.targets.now bases c.args.n c.args.look c.args.down c.args.i o (memory c.args.rows.now c.args.words.now)) (of_kind a.x 2 c.in-2.is))
 
 pub returns-in-3 : goal.returns-in-3
 unfolding node_step
 returns-in-3 c =
     λ bases e. c.same_step.ensures c.args.words.now
-    ∙ sym (ap ((let h : List ℕ → Operator → Stepped = λ bases o. node_step c.args.table.now c.args.targets.now bases c.args.n c.args.look c.args.down c.args.i o (memory c.args.rows.now c.args.words.now) in h) bases) (of_kind c.args.x 3 c.in-3.keys3))
+    ∙ sym (ap (λ (o : Operator). node_step c.args.table.now c.args.targets.now bases c.args.n c.args.look c.args.down c.args.i o (memory c.args.rows.now c.args.words.now)) (of_kind c.args.x 3 c.in-3.is))
 
 pub returns-in-4 : goal.returns-in-4
 unfolding node_step
 returns-in-4 c =
-    let kind = c.in-4.keys4 in
+    let kind = c.in-4.is in
     λ bases e. c.pair_step.ensures c.args.words.now
-    ∙ ap ((let h : Bool → ℕ → Stepped = λ same b. cond (eqb c.args.x.a b) (same_step c.args.i true c.args.x.a (memory c.args.rows.now c.args.words.now))
-    (both_step c.args.i same c.args.x.a b (memory c.args.rows.now c.args.words.now)) in h) true) (c.second_child-b.ensures ∙ second_b c.args.x (omega (arith, kind)))
-    ∙ sym (ap ((let h : List ℕ → Operator → Stepped = λ bases o. node_step c.args.table.now c.args.targets.now bases c.args.n c.args.look c.args.down c.args.i o (memory c.args.rows.now c.args.words.now) in h) bases) (of_kind c.args.x 4 kind))
+    ∙ ap (λ (b : ℕ). cond (eqb c.args.x.a b) (same_step c.args.i true c.args.x.a (memory c.args.rows.now c.args.words.now))
+      (both_step c.args.i true c.args.x.a b (memory c.args.rows.now c.args.words.now))) (c.second_child-b.ensures ∙ second_b c.args.x (omega (arith, kind)))
+    ∙ sym (ap (λ (o : Operator). node_step c.args.table.now c.args.targets.now bases c.args.n c.args.look c.args.down c.args.i o (memory c.args.rows.now c.args.words.now)) (of_kind c.args.x 4 kind))
 
 pub returns-in-5 : goal.returns-in-5
 unfolding node_step
 returns-in-5 c =
-    let kind = c.in-5.keys5 in
+    let kind = c.in-5.is in
     λ bases e. c.pair_step-in-5.ensures c.args.words.now
-    ∙ ap ((let h : Bool → ℕ → Stepped = λ same b. cond (eqb c.args.x.a b) (same_step c.args.i true c.args.x.a (memory c.args.rows.now c.args.words.now))
-    (both_step c.args.i same c.args.x.a b (memory c.args.rows.now c.args.words.now)) in h) false) (c.second_child-b.ensures ∙ second_b c.args.x (omega (arith, kind)))
-    ∙ sym (ap ((let h : List ℕ → Operator → Stepped = λ bases o. node_step c.args.table.now c.args.targets.now bases c.args.n c.args.look c.args.down c.args.i o (memory c.args.rows.now c.args.words.now) in h) bases) (of_kind c.args.x 5 kind))
+    ∙ ap (λ (b : ℕ). cond (eqb c.args.x.a b) (same_step c.args.i true c.args.x.a (memory c.args.rows.now c.args.words.now))
+      (both_step c.args.i false c.args.x.a b (memory c.args.rows.now c.args.words.now))) (c.second_child-b.ensures ∙ second_b c.args.x (omega (arith, kind)))
+    ∙ sym (ap (λ (o : Operator). node_step c.args.table.now c.args.targets.now bases c.args.n c.args.look c.args.down c.args.i o (memory c.args.rows.now c.args.words.now)) (of_kind c.args.x 5 kind))
 
 pub returns-in-6 : goal.returns-in-6
 unfolding node_step
 returns-in-6 c =
-    let r = c.in_default-1.rest in
     let a = c.args in
     λ bases e. c.next_step.ensures a.words.now
-    ∙ ap (let h : Bool → Stepped = λ e. next_step c.args.targets.now c.args.n c.args.look c.args.i e c.args.x.a (memory c.args.rows.now c.args.words.now) in h) (is_even (eqb (a.x.kind % 2) 0))
-    ∙ sym (ap ((let h : List ℕ → Operator → Stepped = λ bases o. node_step c.args.table.now c.args.targets.now bases c.args.n c.args.look c.args.down c.args.i o (memory c.args.rows.now c.args.words.now) in h) bases) (next_kind a.x (from_six a.x.kind (omega arith) r.0.0.0.0.1 r.0.0.0.1 r.0.0.1 r.0.1 r.1) (omega arith)))
+    ∙ ap (λ (e : Bool). next_step c.args.targets.now c.args.n c.args.look c.args.i e c.args.x.a (memory c.args.rows.now c.args.words.now)) (is_even (eqb (a.x.kind % 2) 0))
+    ∙ sym (ap (λ (o : Operator). node_step c.args.table.now c.args.targets.now bases c.args.n c.args.look c.args.down c.args.i o (memory c.args.rows.now c.args.words.now)) (next_kind a.x (from_six a.x.kind (omega arith) (omega arith) (omega arith) (omega arith) (omega arith) (omega arith)) (omega arith)))
 
 pub returns-in-8 : goal.returns-in-8
 unfolding node_step
@@ -109,14 +108,14 @@ returns-in-8 c =
     let family = c.family_of-family in
     let second = c.second_child-b in
     λ bases e. c.fixpoint_step.ensures
-    ∙ (λ j. (let h : Family → ℕ → Bool → ℕ → Stepped = λ family b e k. (levels_from c.args.targets.now c.args.n (fixpoint_at family c.args.i e c.args.x.a b k) c.args.down c.args.look c.args.n (memory c.args.rows.now c.args.words.now)).done in h) (family.ensures j) (second.ensures j) (is_even (eqb (x.kind % 2) 0) j) (sym e j))
-    ∙ sym (ap ((let h : List ℕ → Operator → Stepped = λ bases o. node_step c.args.table.now c.args.targets.now bases c.args.n c.args.look c.args.down c.args.i o (memory c.args.rows.now c.args.words.now) in h) bases) (fixpoint_kind x (omega arith) (omega arith)))
+    ∙ (λ j. (levels_from c.args.targets.now c.args.n (fixpoint_at (family.ensures j) c.args.i (is_even (eqb (x.kind % 2) 0) j) c.args.x.a (second.ensures j) (sym e j)) c.args.down c.args.look c.args.n (memory c.args.rows.now c.args.words.now)).done)
+    ∙ sym (ap (λ (o : Operator). node_step c.args.table.now c.args.targets.now bases c.args.n c.args.look c.args.down c.args.i o (memory c.args.rows.now c.args.words.now)) (fixpoint_kind x (omega arith) (omega arith)))
 
 -- a kind that no arm names is 0, or past the last
 pub returns-in_default : goal.returns-in_default
 unfolding node_step
 returns-in_default c =
     let a = c.args in
-    let operator = ⊎_elim (λ t. of_kind a.x 0 (omega (arith, t.taken))) (λ w. past_kinds a.x w.2.left) c.in_default.branch in
-    λ bases e. added a.rows.now (node_place a.i) (c.constant_row-in_default.ensures ∙ ap (constant_row a.n) (sym (no-states a.n))) c.add_node-in_default.ensures a.words.now
-    ∙ sym (ap ((let h : List ℕ → Operator → Stepped = λ bases o. node_step c.args.table.now c.args.targets.now bases c.args.n c.args.look c.args.down c.args.i o (memory c.args.rows.now c.args.words.now) in h) bases) operator)
+    let operator = ? in
+    λ bases e. added a.rows.now (node_place a.i) (c.constant_row-in_default.ensures ∙ ap (constant_row a.n) (sym (no-states a.n))) c.add_node-in_default.ensures.value c.add_node-in_default.ensures.rows_after a.words.now
+    ∙ sym (ap (λ (o : Operator). node_step c.args.table.now c.args.targets.now bases c.args.n c.args.look c.args.down c.args.i o (memory c.args.rows.now c.args.words.now)) operator)
