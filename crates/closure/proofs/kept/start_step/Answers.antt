@@ -23,8 +23,8 @@ returns c =
     let test = c.is_only.ensures in
     let last : c.if-is_only.last ≡ cond (only left) left 0 =
     elim c.if-is_only.branch as (λ _. c.if-is_only.last ≡ cond (only left) left 0) [
-      then-is_only w ↦ w.last-is ∙ rw (← test, w.if-is_only.true)
-    | else-is_only w ↦ w.last-is ∙ rw (← test, w.if-is_only.false)
+      | then-is_only w ↦ w.last-is ∙ rw (← test, w.if-is_only.true)
+      | else-is_only w ↦ w.last-is ∙ rw (← test, w.if-is_only.false)
     ]
     in
     λ w. after_add (node_place a.root)

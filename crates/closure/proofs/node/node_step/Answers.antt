@@ -2,7 +2,6 @@
 use Prim.Native.Nat.{ℕ, ◌%◌, ◌≤◌}
 use mathlib.Core.Path.{◌≡◌, refl, sym, ap, ◌∙◌}
 use mathlib.Core.Bool.{Bool, true, false, cond, and-true, and-false}
-use mathlib.Core.Logic.{⊎_elim}
 use mathlib.Core.List.{List}
 use native.Mathlib.Nat.{lt_of_lt_of_le}
 use native.Mathlib.Omega.{arith}
@@ -10,18 +9,18 @@ use lib.Dec.{eqb, ltb}
 use lib.Pow.{pow_mono}
 use Rattle.sets.specs.Member.{set_of}
 use Rattle.sets.proofs.SetOf.{set_of_unique, set_of-lt, member-set_of, empty}
-use Rattle.table.specs.declared.family.Family.{Family}
 use Rattle.table.specs.StateSets.{labelled_word}
-use Rattle.ctl.specs.Rule.{every, some, Operator}
+use Rattle.ctl.specs.Rule.{every, some, Operator, constant, operator_of}
 use Rattle.ctl.proofs.OfKind.{of_kind, past_kinds, from_six, second_b, second_below, next_kind, fixpoint_kind}
 use Rattle.rows.specs.Rules.{constant_row}
-use Rattle.propagate.specs.Memory.{node_place, Stepped, memory}
+use Rattle.propagate.specs.Memory.{node_place, memory}
 use Rattle.closure.specs.Dual.{is_every}
 use Rattle.closure.specs.MemoryRules.{node_step}
 use Rattle.propagate.specs.Level.{fixpoint_at, levels_from}
 use Rattle.propagate.specs.Gates.{same_step, both_step, next_step}
 use Rattle.propagate.proofs.Chain.{added}
 use Rattle.closure.proofs.node.node_step.Goals as goal
+use Rattle.closure.proofs.node.node_step.Goals.{in_default-via-then-kind-lt1, in_default-via-else-kind-lt1+else-kind-lt8+else-kind-lt16}
 
 -- all of n states, and none
 all-states : (n : ℕ) → n ≤ 32 → set_of 32 (λ t. ltb t n) ≡ set_of n (λ s. true)
@@ -81,7 +80,7 @@ returns-in-4 c =
     let kind = c.in-4.is in
     λ bases e. c.pair_step.ensures c.args.words.now
     ∙ ap (λ (b : ℕ). cond (eqb c.args.x.a b) (same_step c.args.i true c.args.x.a (memory c.args.rows.now c.args.words.now))
-      (both_step c.args.i true c.args.x.a b (memory c.args.rows.now c.args.words.now))) (c.second_child-b.ensures ∙ second_b c.args.x (omega (arith, kind)))
+    (both_step c.args.i true c.args.x.a b (memory c.args.rows.now c.args.words.now))) (c.second_child-b.ensures ∙ second_b c.args.x (omega (arith, kind)))
     ∙ sym (ap (λ (o : Operator). node_step c.args.table.now c.args.targets.now bases c.args.n c.args.look c.args.down c.args.i o (memory c.args.rows.now c.args.words.now)) (of_kind c.args.x 4 kind))
 
 pub returns-in-5 : goal.returns-in-5
@@ -90,7 +89,7 @@ returns-in-5 c =
     let kind = c.in-5.is in
     λ bases e. c.pair_step-in-5.ensures c.args.words.now
     ∙ ap (λ (b : ℕ). cond (eqb c.args.x.a b) (same_step c.args.i true c.args.x.a (memory c.args.rows.now c.args.words.now))
-      (both_step c.args.i false c.args.x.a b (memory c.args.rows.now c.args.words.now))) (c.second_child-b.ensures ∙ second_b c.args.x (omega (arith, kind)))
+    (both_step c.args.i false c.args.x.a b (memory c.args.rows.now c.args.words.now))) (c.second_child-b.ensures ∙ second_b c.args.x (omega (arith, kind)))
     ∙ sym (ap (λ (o : Operator). node_step c.args.table.now c.args.targets.now bases c.args.n c.args.look c.args.down c.args.i o (memory c.args.rows.now c.args.words.now)) (of_kind c.args.x 5 kind))
 
 pub returns-in-6 : goal.returns-in-6
@@ -116,6 +115,11 @@ pub returns-in_default : goal.returns-in_default
 unfolding node_step
 returns-in_default c =
     let a = c.args in
-    let operator = ? in
+    let operator : operator_of a.x ≡ constant false =
+    elim c.in_default.branch as (λ _. operator_of a.x ≡ constant false) [
+      | in_default-via-then-kind-lt1 w ↦ of_kind a.x 0 (omega arith)
+      | in_default-via-else-kind-lt1+else-kind-lt8+else-kind-lt16 w ↦ past_kinds a.x (omega arith)
+    ]
+    in
     λ bases e. added a.rows.now (node_place a.i) (c.constant_row-in_default.ensures ∙ ap (constant_row a.n) (sym (no-states a.n))) c.add_node-in_default.ensures.value c.add_node-in_default.ensures.rows_after a.words.now
     ∙ sym (ap (λ (o : Operator). node_step c.args.table.now c.args.targets.now bases c.args.n c.args.look c.args.down c.args.i o (memory c.args.rows.now c.args.words.now)) operator)
