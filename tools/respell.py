@@ -121,7 +121,7 @@ def table(root):
     for n in sorted(every):
         if MADE.match(n) or n in out:
             continue
-        new = dashes(snake(n), names)
+        new = snake(n).replace("-", "_") if n in specs or n in fields else dashes(snake(n), names)
         if (new in functions and n not in specs) or (new != n and new in every):
             new += "_lem"
         new = CHOSEN.get(n, new)

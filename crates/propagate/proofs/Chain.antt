@@ -70,5 +70,5 @@ fits_on rows words rows' words' fits r w = record {
   node_below = fits.node_below;
   a_below = fits.a_below;
   b_below = fits.b_below;
-  levels-below = rw w fits.levels-below;
+  levels_below = rw w fits.levels_below;
 }
