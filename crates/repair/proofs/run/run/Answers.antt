@@ -1,10 +1,10 @@
 -- `run` meets its contract: what it works out is what the search asks for, and the search's words lie within the first V.
 use Prim.Native.Nat.{ℕ, ◌≤◌}
 use mathlib.Core.Path.{◌≡◌, sym, ap, ◌∙◌}
-use mathlib.Core.List.{List}
+use mathlib.Core.List.{List, ◌++◌}
 use native.Mathlib.Omega.{arith}
-use lib.ListN.{length, get_or}
-use lib.Seq.{length-take-le}
+use lib.ListN.{length, get_or, take, drop}
+use lib.Seq.{length-take-le, drop_at}
 use Rattle.table.specs.declared.refusal.Verdict.TheVariants.{Accepted}
 use Rattle.table.specs.Table.{table_of}
 use Rattle.table.specs.Accept.{table_verdict}
@@ -35,6 +35,14 @@ setting_of table ok counts targets bases reads = record {
   reads = reads;
 }
 
+-- of the first k words: how many they are, and what the words are after a call that was lent them
+module _ (words : List ℕ) (k : ℕ) (fits : k ≤ length words) where
+  part_length : length (take k words) ≡ k
+  part_length = length-take-le k words fits
+
+  beyond : (after : List ℕ) → length after ≡ length (take k words) → (v : ℕ) → k ≡ v → drop v (after ++ drop k words) ≡ drop v words
+  beyond after same v e = drop_at after (drop k words) v (same ∙ part_length ∙ e) ∙ ap (λ (n : ℕ). drop n words) e
+
 pub readers_of-readers-requires : goal.readers_of-readers-requires
 readers_of-readers-requires c =
     let sets = c.target_sets-targets.ensures in
@@ -45,10 +53,10 @@ readers_of-readers-requires c =
     }
 
 pub slice_bounds-search_table-end-4 : goal.slice_bounds-search_table-end-4
-slice_bounds-search_table-end-4 c = (let h : c.args.cells ≤ length c.args.words.now = omega (arith, c.requires.table_in_bounds_2, c.requires.cells_value) in h)
+slice_bounds-search_table-end-4 c = omega (arith, c.requires.table_in_bounds_2, c.requires.cells_value)
 
 pub slice_bounds-search_table-end-5 : goal.slice_bounds-search_table-end-5
-slice_bounds-search_table-end-5 c = sym (length-take-le c.args.cells c.args.words.now (let h : c.args.cells ≤ length c.args.words.now = omega (arith, c.requires.table_in_bounds_2, c.requires.cells_value) in h))
+slice_bounds-search_table-end-5 c = sym (part_length c.args.words.now c.args.cells (omega (arith, c.requires.table_in_bounds_2, c.requires.cells_value)))
 
 pub search_table-requires : goal.search_table-requires
 search_table-requires c =
@@ -56,72 +64,63 @@ search_table-requires c =
     let targets = c.target_sets-targets.ensures in
     let bases = c.level_bases-b.ensures in
     let fit = levels_fit T (accepted c.args.table.now c.requires.table_value).table in
-    let setting = setting_of c.args.table.now c.requires.table_value c.net_of-net.ensures targets bases c.readers_of-readers.ensures in
+    let part = part_length c.args.words.now c.args.cells (omega (arith, c.requires.table_in_bounds_2, c.requires.cells_value)) in
     record {
-      setting = setting;
+      setting = setting_of c.args.table.now c.requires.table_value c.net_of-net.ensures targets bases c.readers_of-readers.ensures;
       levels_value = bases.total;
-      table_in_bounds = omega (arith, fit, (length-take-le c.args.cells c.args.words.now (let h : c.args.cells ≤ length c.args.words.now = omega (arith, c.requires.table_in_bounds_2, c.requires.cells_value) in h)), c.requires.cells_value);
+      table_in_bounds = omega (arith, fit, part, c.requires.cells_value);
       table_in_bounds_2 = c.requires.table_in_bounds;
     }
 
+-- the list has e bytes still
 pub slice_bounds-strike_unreached-end : goal.slice_bounds-strike_unreached-end
-slice_bounds-strike_unreached-end c = (let h : let gave = c.before.before.before.before.before.before.before.before in c.counts_of-counts.result.steps ≤ length c.search_table.new.list = let gave = c.before.before.before.before.before.before.before.before in
-    let start = gave.before.before.before.before.before.before.before.before.before.before.before.before.before.before.before in
-    omega (arith, (let h : let gave = c.before.before.before.before.before.before.before.before in let start = gave.before.before.before.before.before.before.before.before.before.before.before.before.before.before.before in c.counts_of-counts.result.steps ≡ length (table_of c.args.table.now).steps = steps_are c.args.table.now c.counts_of-counts.result c.counts_of-counts.ensures in h), c.search_table.auto.1.1.1.1.1.1.1.0, c.requires.table_in_bounds) in h)
+slice_bounds-strike_unreached-end c =
+    let count = steps_are c.args.table.now c.counts_of-counts.result c.counts_of-counts.ensures in
+    omega (arith, count, c.search_table.auto.list, c.requires.table_in_bounds)
 
 pub slice_bounds-strike_unreached-end-in-Found : goal.slice_bounds-strike_unreached-end-in-Found
-slice_bounds-strike_unreached-end-in-Found c = sym (length-take-le _ _ ((let h : let gave = c.before.before.before.before.before.before.before.before in c.counts_of-counts.result.steps ≤ length c.search_table.new.list = let gave = c.before.before.before.before.before.before.before.before in
-    let start = gave.before.before.before.before.before.before.before.before.before.before.before.before.before.before.before in
-    omega (arith, (let h : let gave = c.before.before.before.before.before.before.before.before in let start = gave.before.before.before.before.before.before.before.before.before.before.before.before.before.before.before in c.counts_of-counts.result.steps ≡ length (table_of c.args.table.now).steps = steps_are c.args.table.now c.counts_of-counts.result c.counts_of-counts.ensures in h), c.search_table.auto.1.1.1.1.1.1.1.0, c.requires.table_in_bounds) in h)))
+slice_bounds-strike_unreached-end-in-Found c =
+    let count = steps_are c.args.table.now c.counts_of-counts.result c.counts_of-counts.ensures in
+    sym (length-take-le _ _ (omega (arith, count, c.search_table.auto.list, c.requires.table_in_bounds)))
 
 pub strike_unreached-requires : goal.strike_unreached-requires
 strike_unreached-requires c =
-    let gave = c.before.before.before.before.before.before.before.before.before in
-    let start = gave.before.before.before.before.before.before.before.before.before.before.before.before.before.before.before in
+    let count = steps_are c.args.table.now c.counts_of-counts.result c.counts_of-counts.ensures in
+    let fits : c.counts_of-counts.result.steps ≤ length c.search_table.new.list = omega (arith, count, c.search_table.auto.list, c.requires.table_in_bounds) in
     record {
       table_value = c.requires.table_value;
       net_value = c.net_of-net.ensures;
-      list_len = length-take-le _ _ ((let h : let gave = c.before.before.before.before.before.before.before.before in c.counts_of-counts.result.steps ≤ length c.search_table.new.list = let gave = c.before.before.before.before.before.before.before.before in
-    let start = gave.before.before.before.before.before.before.before.before.before.before.before.before.before.before.before in
-    omega (arith, (let h : let gave = c.before.before.before.before.before.before.before.before in let start = gave.before.before.before.before.before.before.before.before.before.before.before.before.before.before.before in c.counts_of-counts.result.steps ≡ length (table_of c.args.table.now).steps = let gave = c.before.before.before.before.before.before.before.before in
-    let start = gave.before.before.before.before.before.before.before.before.before.before.before.before.before.before.before in
-    steps_are c.args.table.now c.counts_of-counts.result c.counts_of-counts.ensures in h), c.search_table.auto.1.1.1.1.1.1.1.0, c.requires.table_in_bounds) in h)) ∙ (let h : let gave = c.before.before.before.before.before.before.before.before in let start = gave.before.before.before.before.before.before.before.before.before.before.before.before.before.before.before in c.counts_of-counts.result.steps ≡ length (table_of c.args.table.now).steps = steps_are c.args.table.now c.counts_of-counts.result c.counts_of-counts.ensures in h);
+      list_len = length-take-le _ _ fits ∙ count;
     }
 
 pub returns-in-Found : goal.returns-in-Found
 returns-in-Found c =
-    let counts = c.before.before.before.before in
-    let gave = counts.before.before.before.before.before.before.before.before in
     let T = table_of c.args.table.now in
-    let list = c.args.list.now in
     let told = sym c.in-Found.is ∙ c.search_table.ensures.value in
+    let count = steps_are c.args.table.now c.counts_of-counts.result c.counts_of-counts.ensures in
     let struck = c.strike_unreached in
     record {
       value = ap carried told;
-      list_after = after_found T list _ (search_under T c.args.cap) _ _ _ c.counts_of-counts.result.steps told c.search_table.ensures.list_after (steps_count counts) struck.new.list struck.ensures;
-      words_unchanged = beyond gave;
+      list_after = after_found T c.args.list.now _ (search_under T c.args.cap) _ _ _ c.counts_of-counts.result.steps told c.search_table.ensures.list_after count struck.new.list struck.ensures;
+      words_unchanged = beyond c.args.words.now c.args.cells (omega (arith, c.requires.table_in_bounds_2, c.requires.cells_value)) c.search_table.new.words c.search_table.auto.words _ c.requires.cells_value;
     }
 
 pub returns-in-None : goal.returns-in-None
 returns-in-None c =
-    let gave = c.before.before.before.before.before.before.before in
     let T = table_of c.args.table.now in
-    let list = c.args.list.now in
     let told = sym c.in-None.is ∙ c.search_table.ensures.value in
     record {
       value = ap carried told;
-      list_after = after_none T list _ (search_under T c.args.cap) _ _ told c.search_table.ensures.list_after;
-      words_unchanged = beyond gave;
+      list_after = after_none T c.args.list.now _ (search_under T c.args.cap) _ _ told c.search_table.ensures.list_after;
+      words_unchanged = beyond c.args.words.now c.args.cells (omega (arith, c.requires.table_in_bounds_2, c.requires.cells_value)) c.search_table.new.words c.search_table.auto.words _ c.requires.cells_value;
     }
 
 pub returns-in-Spent : goal.returns-in-Spent
 returns-in-Spent c =
-    let gave = c.before.before.before.before.before.before.before in
     let T = table_of c.args.table.now in
-    let list = c.args.list.now in
     let told = sym c.in-Spent.is ∙ c.search_table.ensures.value in
     record {
       value = ap carried told;
-      list_after = after_spent T list _ (search_under T c.args.cap) _ _ told c.search_table.ensures.list_after;
-      words_unchanged = beyond gave;
+      list_after = after_spent T c.args.list.now _ (search_under T c.args.cap) _ _ told c.search_table.ensures.list_after;
+      words_unchanged = beyond c.args.words.now c.args.cells (omega (arith, c.requires.table_in_bounds_2, c.requires.cells_value)) c.search_table.new.words c.search_table.auto.words _ c.requires.cells_value;
     }
