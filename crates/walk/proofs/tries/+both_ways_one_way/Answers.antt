@@ -1,11 +1,11 @@
 -- `both_ways` and `one_way` meet their contracts: what each shows at each call and return.
-use Prim.Native.Nat.{ℕ, ◌-◌, ◌^◌, ◌<◌}
+use Prim.Native.Nat.{ℕ, ◌-◌}
 use mathlib.Core.Path.{◌≡◌, refl, sym, subst, subst₂, ◌∙◌}
-use mathlib.Core.Bool.{Bool, true, cond}
+use mathlib.Core.Bool.{true, cond}
 use mathlib.Core.List.{List, ◌∷◌, ◌++◌}
 use native.Mathlib.Omega.{arith}
 use lib.Dec.{ltb}
-use lib.ListN.{length, take, drop, replicate, get_or}
+use lib.ListN.{length, take, drop, replicate}
 use Rattle.table.specs.Table.{Table, table_of}
 use Rattle.circuit.specs.Logic.{Literal}
 use Rattle.closure.specs.Advance.{Founded}
@@ -66,12 +66,16 @@ both_ways-one_way-first-requires t c =
     let T = table_of c.args.table.now in
     let stand = c.requires.somewhere in (
       omega (arith, c.decreases),
-      record {
-        handed = handed_again h (omega (arith, part_long c.keep-from.ensures, h.all_levels)) refl;
-        made_le_cap = c.requires.made_le_cap;
-        resting = λ e. lent_rests c.keep-from.ensures T c.args.rows h.all_levels c.requires.resting;
-        somewhere = (stand.0, stand.1, stand.2, kept_stands c.keep-from.ensures T c.args.rows h.all_levels stand.0 stand.1 stand.2 stand.3);
-      },
+      (
+        handed_again h (omega (arith, part_long c.keep-from.ensures, h.all_levels)) refl,
+        (
+          c.requires.made_le_cap,
+          (
+            λ e. lent_rests c.keep-from.ensures T c.args.rows h.all_levels c.requires.resting,
+            (stand.0, stand.1, stand.2, kept_stands c.keep-from.ensures T c.args.rows h.all_levels stand.0 stand.1 stand.2 stand.3),
+          ),
+        ),
+      ),
     )
 
 pub both_ways-returns-in_default : goal.both_ways-returns-in_default
@@ -98,17 +102,21 @@ both_ways-one_way-requires t c =
     let there = gives-passed T try find c.in-Passed.cheapest c.in-Passed.made given in
     let long : length c.zero_if.new.words ≡ length c.args.words.now = left_length c.keep-from.ensures one.new.words one.auto.words c.zero_if.new.words c.zero_if.ensures in (
       omega (arith, c.decreases),
-      record {
-        handed = handed_again h (omega (arith, long, h.words_size)) one.auto.find;
-        made_le_cap = try_within T (handed_table h) c.args.count c.args.j c.args.rows stand.0 stand.1 stand.3.stands true c.requires.made_le_cap stand.2 find c.in-Passed.cheapest c.in-Passed.made given;
-        resting = left_rests c.keep-from.ensures one.new.words one.auto.words T c.args.rows h.all_levels c.zero_if.new.words c.zero_if.ensures c.requires.resting;
-        somewhere = (
-          stand.0,
-          stand.1,
-          there.0,
-          struck_stands c.keep-from.ensures T c.args.rows h.all_levels stand.0 stand.1 stand.2 stand.3 one.new.words one.auto.words c.zero_if.new.words c.zero_if.ensures there.0 there.2,
-        );
-      },
+      (
+        handed_again h (omega (arith, long, h.words_size)) one.auto.find,
+        (
+          try_within T (handed_table h) c.args.count c.args.j c.args.rows stand.0 stand.1 stand.3.stands true c.requires.made_le_cap stand.2 find c.in-Passed.cheapest c.in-Passed.made given,
+          (
+            left_rests c.keep-from.ensures one.new.words one.auto.words T c.args.rows h.all_levels c.zero_if.new.words c.zero_if.ensures c.requires.resting,
+            (
+              stand.0,
+              stand.1,
+              there.0,
+              struck_stands c.keep-from.ensures T c.args.rows h.all_levels stand.0 stand.1 stand.2 stand.3 one.new.words one.auto.words c.zero_if.new.words c.zero_if.ensures there.0 there.2,
+            ),
+          ),
+        ),
+      ),
     )
 
 pub both_ways-returns : goal.both_ways-returns
@@ -169,12 +177,16 @@ one_way-both_ways-requires t c =
     let goes = try_goes T wf c.args.count c.args.j c.args.rows stand.0 stand.1 stand.3.stands c.args.sign
     c.in-Next.more (sym c.in-Next.is ∙ c.step.ensures) stand.2 _ _ _ _ comes c.in-Unsettled.k c.in-Unsettled.is c.requires.made_le_cap in (
       omega (arith, goes.0, c.decreases),
-      record {
-        handed = handed_on c.requires.handed c.reach.ensures.sized c.reach.auto.find;
-        made_le_cap = goes.1;
-        resting = goes.2;
-        somewhere = goes.3;
-      },
+      (
+        handed_on c.requires.handed c.reach.ensures.sized c.reach.auto.find,
+        (
+          goes.1,
+          (
+            goes.2,
+            goes.3,
+          ),
+        ),
+      ),
     )
 
 pub one_way-returns-in-Ended : goal.one_way-returns-in-Ended
