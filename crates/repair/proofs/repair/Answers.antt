@@ -23,7 +23,7 @@ pub returns-in-Refused : goal.returns-in-Refused
 returns-in-Refused c =
     let a = c.args in
     let done = left a.table.now a.cap a.list.now a.bytes.now a.words.now (Refused c.in-Refused.refusal)
-        (table_refused a.table.now a.list.now a.bytes.now a.words.now c.in-Refused.refusal (sym c.check_table.ensures ∙ c.in-Refused.is)) in record {
+    (table_refused a.table.now a.list.now a.bytes.now a.words.now c.in-Refused.refusal (sym c.check_table.ensures ∙ c.in-Refused.is)) in record {
       value = done.0;
       list_after = done.1.0;
       bytes_after = done.1.1.0;
@@ -34,7 +34,7 @@ pub returns-then-list-c : goal.returns-then-list-c
 returns-then-list-c c =
     let a = c.args in
     let done = left a.table.now a.cap a.list.now a.bytes.now a.words.now (Refused ShortBuffer)
-        (short_list a.table.now a.list.now a.bytes.now a.words.now (sym c.check_table.ensures ∙ c.in_default.is) (omega (arith, steps_at c.args.table.now c.counts_of-c.result (sym c.check_table.ensures ∙ c.in_default.is) c.counts_of-c.ensures))) in record {
+    (short_list a.table.now a.list.now a.bytes.now a.words.now (sym c.check_table.ensures ∙ c.in_default.is) (omega (arith, steps_at c.args.table.now c.counts_of-c.result (sym c.check_table.ensures ∙ c.in_default.is) c.counts_of-c.ensures))) in record {
       value = done.0;
       list_after = done.1.0;
       bytes_after = done.1.1.0;
@@ -45,7 +45,7 @@ pub returns-then-bytes-v : goal.returns-then-bytes-v
 returns-then-bytes-v c =
     let a = c.args in
     let done = left a.table.now a.cap a.list.now a.bytes.now a.words.now (Refused ShortBuffer)
-        (short_bytes a.table.now a.list.now a.bytes.now a.words.now (sym c.check_table.ensures ∙ c.in_default.is) (omega (arith, steps_at c.args.table.now c.counts_of-c.result (sym c.check_table.ensures ∙ c.in_default.is) c.counts_of-c.ensures)) (omega (arith, c.variable_count-v.ensures))) in record {
+    (short_bytes a.table.now a.list.now a.bytes.now a.words.now (sym c.check_table.ensures ∙ c.in_default.is) (omega (arith, steps_at c.args.table.now c.counts_of-c.result (sym c.check_table.ensures ∙ c.in_default.is) c.counts_of-c.ensures)) (omega (arith, c.variable_count-v.ensures))) in record {
       value = done.0;
       list_after = done.1.0;
       bytes_after = done.1.1.0;
@@ -56,7 +56,7 @@ pub returns-then-words-v : goal.returns-then-words-v
 returns-then-words-v c =
     let a = c.args in
     let done = left a.table.now a.cap a.list.now a.bytes.now a.words.now (Refused ShortBuffer)
-        (short_words a.table.now a.list.now a.bytes.now a.words.now (sym c.check_table.ensures ∙ c.in_default.is) (omega (arith, steps_at c.args.table.now c.counts_of-c.result (sym c.check_table.ensures ∙ c.in_default.is) c.counts_of-c.ensures)) (omega (arith, c.variable_count-v.ensures)) (omega (arith, c.variable_count-v.ensures))) in record {
+    (short_words a.table.now a.list.now a.bytes.now a.words.now (sym c.check_table.ensures ∙ c.in_default.is) (omega (arith, steps_at c.args.table.now c.counts_of-c.result (sym c.check_table.ensures ∙ c.in_default.is) c.counts_of-c.ensures)) (omega (arith, c.variable_count-v.ensures)) (omega (arith, c.variable_count-v.ensures))) in record {
       value = done.0;
       list_after = done.1.0;
       bytes_after = done.1.1.0;
@@ -84,7 +84,7 @@ returns c =
       list_after = c.run-answer.ensures.list_after ∙ done.1.0;
       bytes_after = c.clear_bytes.ensures ∙ ap (λ (n : ℕ). cleared n a.bytes.now) v ∙ done.1.1.0;
       words_after = c.clear_words.ensures
-              ∙ ap (λ (n : ℕ). cleared n c.run-answer.new.words) v
-              ∙ ap (λ (rest : List ℕ). take count (replicate count 0) ++ rest) c.run-answer.ensures.words_unchanged
-              ∙ done.1.1.1;
+          ∙ ap (λ (n : ℕ). cleared n c.run-answer.new.words) v
+          ∙ ap (λ (rest : List ℕ). take count (replicate count 0) ++ rest) c.run-answer.ensures.words_unchanged
+          ∙ done.1.1.1;
     }
