@@ -4,15 +4,18 @@
 mod input;
 
 use input::{Input, read_input};
-use libc::STDOUT_FILENO;
+use std::process::ExitCode;
 
 // A byte more than a sheet may have tells that it is longer.
-fn main() {
+fn main(rt: HostRuntime) -> ExitCode {
     let mut text = [0u8; 4097];
-    let Input::Bytes(n) = read_input(&mut text) else {
-        return;
+    let Input::Bytes(n) = read_input(&mut rt.stdin(), &mut text) else {
+        return ExitCode::FAILURE;
     };
     let mut out = [0u8; 2048];
     let length = report::fit_report(&text[..n], &mut out);
-    io::write_all(STDOUT_FILENO, &out[..length]);
+    match rt.write_all(&out[..length]) {
+        Ok(()) => ExitCode::SUCCESS,
+        Err(_) => ExitCode::FAILURE,
+    }
 }

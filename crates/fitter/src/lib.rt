@@ -1,4 +1,4 @@
-// The face of the fitter to C: every call answers a number, and leaves in every lent buffer what its contract says.
+// The calls of the fitter, which the crate fitter_c exports to C: every call answers a number, and leaves in every lent buffer what its contract says.
 #![tactic(auto)]
 
 ghost use Rattle.std.specs.Prelude.{◌≡◌, length};
@@ -50,8 +50,7 @@ fn store_answer(answer: Answer, choices: &mut u64, price: &mut u32, settled: &mu
 }
 
 // 0 found, 14 none or 15 spent, and the choices, the price and the settled steps stored; or the refusal's number and nothing stored or written.
-#[unsafe(no_mangle)]
-pub extern "C" fn fitter_repair(
+pub fn fitter_repair(
     table: &[u8],
     cap: u64,
     list: &mut [u8],
@@ -78,16 +77,14 @@ pub extern "C" fn fitter_repair(
 }
 
 // 0 where the list is a repair of the table in the narrower sense, else the refusal's number.
-#[unsafe(no_mangle)]
-pub extern "C" fn fitter_judge(table: &[u8], list: &[u8]) -> u32
+pub fn fitter_judge(table: &[u8], list: &[u8]) -> u32
     ensures { result ≡ verdict_number (judge_verdict table.now list.now) }
 {
     table::verdict_number(judge::judge_list(table, list))
 }
 
 // 0 and an entry for each node, or the refusal's number and nothing written.
-#[unsafe(no_mangle)]
-pub extern "C" fn fitter_label(table: &[u8], list: &[u8], out: &mut [u32]) -> u32
+pub fn fitter_label(table: &[u8], list: &[u8], out: &mut [u32]) -> u32
     ensures value { result ≡ verdict_number (label_verdict table.now list.now (length out.old)) }
     ensures out_after { out.new ≡ label_buffer table.now list.now out.old }
 {
@@ -95,8 +92,7 @@ pub extern "C" fn fitter_label(table: &[u8], list: &[u8], out: &mut [u32]) -> u3
 }
 
 // 0, the states of the root's set in reading order and their count, or the refusal's number and nothing written.
-#[unsafe(no_mangle)]
-pub extern "C" fn fitter_holding(table: &[u8], list: &[u8], out: &mut [u8], count: &mut u32) -> u32
+pub fn fitter_holding(table: &[u8], list: &[u8], out: &mut [u8], count: &mut u32) -> u32
     ensures value { result ≡ holding_number (holding_answer table.now list.now (length out.old)) }
     ensures out_after { out.new ≡ holding_buffer table.now list.now out.old }
     ensures count_after { count.new ≡ holding_count (holding_answer table.now list.now (length out.old)) count.old }
@@ -111,8 +107,7 @@ pub extern "C" fn fitter_holding(table: &[u8], list: &[u8], out: &mut [u8], coun
 }
 
 // 0, the packed table of the sheet written and its length stored, or the refusal's number and nothing written.
-#[unsafe(no_mangle)]
-pub extern "C" fn fitter_read(text: &[u8], out: &mut [u8], length: &mut u64) -> u32
+pub fn fitter_read(text: &[u8], out: &mut [u8], length: &mut u64) -> u32
     ensures value { result ≡ read_number (read_answer text.now out.old) }
     ensures out_after { out.new ≡ read_buffer text.now out.old }
     ensures length_after { length.new ≡ read_length (read_answer text.now out.old) length.old }

@@ -10,12 +10,13 @@ mod steps;
 use print::print_names;
 use refused::{run_lists, run_tables};
 use repaired::run_repairs;
+use std::io;
 use steps::run_steps;
 
-fn main() {
-    print_names();
-    run_tables();
-    run_lists();
-    run_repairs();
-    run_steps();
+fn main(rt: HostRuntime) -> io::Result<()> {
+    print_names(&rt)?;
+    run_tables(&rt)?;
+    run_lists(&rt)?;
+    run_repairs(&rt)?;
+    run_steps(&rt)
 }

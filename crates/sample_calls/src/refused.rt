@@ -1,72 +1,78 @@
 // 1 to 13, and 16: the example of each refusal.
 use crate::calls::{repair, repair_in, sheet};
 use crate::print::print_sample;
+use std::io;
 
-fn print_refused(table: &[u8], sample: &[u8]) {
+fn print_refused(rt: &impl Print, table: &[u8], sample: &str) -> io::Result<()> {
     let r = repair(table, 1000000);
-    print_sample(r.number, sample);
+    print_sample(rt, r.number, sample)
 }
 
-fn print_judged(table: &[u8], list: &[u8], sample: &[u8]) {
-    print_sample(fitter::fitter_judge(table, list), sample);
+fn print_judged(rt: &impl Print, table: &[u8], list: &[u8], sample: &str) -> io::Result<()> {
+    print_sample(rt, fitter::fitter_judge(table, list), sample)
 }
 
-fn run_read() {
+fn run_read(rt: &impl Print) -> io::Result<()> {
     let mut out = [0u8; 580];
     let mut length = 0;
     let number = fitter::fitter_read(b"", &mut out, &mut length);
-    print_sample(number, b"an empty text");
+    print_sample(rt, number, "an empty text")
 }
 
 // 33 states of 3 bytes, and one node.
-fn run_counts() {
+fn run_counts(rt: &impl Print) -> io::Result<()> {
     let mut table = [0u8; 106];
     table[0] = 33;
     table[2] = 1;
-    print_refused(&table, b"n = 33");
+    print_refused(rt, &table, "n = 33")
 }
 
 // 01's sheet has 100 variables.
-fn run_short() {
+fn run_short(rt: &impl Print) -> io::Result<()> {
     let table = sheet();
     let mut bytes = [0u8; 99];
     let r = repair_in(&table, 1000000, &mut bytes);
-    print_sample(r.number, b"100 variables, 99 work bytes");
+    print_sample(rt, r.number, "100 variables, 99 work bytes")
 }
 
-pub fn run_tables() {
-    run_read();
-    print_refused(b"\x01\x00\x01", b"bytes 1 0 1");
-    run_counts();
-    print_refused(b"\x01\x00\x01\x00\x02\x00\x00\x01\x00\x00", b"initial 2");
+pub fn run_tables(rt: &impl Print) -> io::Result<()> {
+    run_read(rt)?;
+    print_refused(rt, b"\x01\x00\x01", "bytes 1 0 1")?;
+    run_counts(rt)?;
+    print_refused(rt, b"\x01\x00\x01\x00\x02\x00\x00\x01\x00\x00", "initial 2")?;
     print_refused(
+        rt,
         b"\x01\x00\x01\x00\x00\x00\x00\x01\x00\x00",
-        b"one state, initial 0",
-    );
+        "one state, initial 0",
+    )?;
     print_refused(
+        rt,
         b"\x02\x01\x01\x00\x01\x00\x00\x00\x00\x00\x00\x02\x05\x01\x00\x00",
-        b"two states, step 0 to 2",
-    );
+        "two states, step 0 to 2",
+    )?;
     print_refused(
+        rt,
         b"\x02\x02\x01\x00\x01\x00\x00\x00\x00\x00\x00\x01\x01\x00\x01\x02\x01\x00\x00",
-        b"steps 0 1 and 0 1",
-    );
+        "steps 0 1 and 0 1",
+    )?;
     print_refused(
+        rt,
         b"\x01\x00\x01\x00\x01\x00\x00\x03\x00\x00",
-        b"node 0: 3 0 0",
-    );
+        "node 0: 3 0 0",
+    )
 }
 
-pub fn run_lists() {
+pub fn run_lists(rt: &impl Print) -> io::Result<()> {
     let table = sheet();
-    print_judged(&table, b"\x01\x01\x00", b"list 1 1 0 of four steps");
-    run_short();
+    print_judged(rt, &table, b"\x01\x01\x00", "list 1 1 0 of four steps")?;
+    run_short(rt)?;
     print_judged(
+        rt,
         b"\x02\x01\x01\x00\x01\x00\x00\x00\x00\x00\x00\x01\x05\x01\x00\x00",
         b"\x01",
-        b"one step 0 to 1, kept",
-    );
-    print_judged(&table, b"\x00\x00\x00\x00", b"list 0 0 0 0");
-    print_judged(&table, b"\x01\x01\x01\x01", b"list 1 1 1 1");
-    print_judged(&table, b"\x01\x01\x00\x01", b"list 1 1 0 1");
+        "one step 0 to 1, kept",
+    )?;
+    print_judged(rt, &table, b"\x00\x00\x00\x00", "list 0 0 0 0")?;
+    print_judged(rt, &table, b"\x01\x01\x01\x01", "list 1 1 1 1")?;
+    print_judged(rt, &table, b"\x01\x01\x00\x01", "list 1 1 0 1")
 }

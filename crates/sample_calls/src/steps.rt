@@ -1,5 +1,6 @@
 // The most steps that a table may have.
 use crate::print::print_sample;
+use std::io;
 
 // 32 states, the first one initial, and 129 steps: all from 0, 1, 2 and 3, and one from 4, each priced by its number. The node behind them is still missing.
 fn stepped() -> [u8; 490] {
@@ -17,20 +18,24 @@ fn stepped() -> [u8; 490] {
     table
 }
 
-fn print_checked(table: &[u8], sample: &[u8]) {
-    print_sample(table::verdict_number(accept::check_table(table)), sample);
+fn print_checked(rt: &impl Print, table: &[u8], sample: &str) -> io::Result<()> {
+    print_sample(
+        rt,
+        table::verdict_number(accept::check_table(table)),
+        sample,
+    )
 }
 
 // The node, true, stands behind the last step that counts.
-pub fn run_steps() {
+pub fn run_steps(rt: &impl Print) -> io::Result<()> {
     let mut most = stepped();
     most[1] = 128;
     most[484] = 1;
     most[485] = 0;
     most[486] = 0;
-    print_checked(&most[..487], b"128 steps");
+    print_checked(rt, &most[..487], "128 steps")?;
     let mut more = stepped();
     more[1] = 129;
     more[487] = 1;
-    print_checked(&more, b"129 steps");
+    print_checked(rt, &more, "129 steps")
 }

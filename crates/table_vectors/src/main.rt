@@ -11,8 +11,11 @@ mod text;
 mod vector;
 
 ghost use Rattle.std.specs.Prelude.{◌≡◌, length};
+ghost use Rattle.std.specs.Io.{ReadsAtMost};
 
 use report::print_tally;
+use std::io;
+use std::io::{Read, Stdin};
 use vector::tally_text;
 
 // Room for the whole input.
@@ -22,8 +25,23 @@ fn space() -> [u8; 262144]
     [0; 262144]
 }
 
-fn main() {
+// Reads until the text is full or the input ends, and answers how many bytes stand at its front.
+fn read_full(stdin: &mut Stdin, text: &mut [u8]) -> io::Result<usize>
+    ensures { ReadsAtMost result text.new }
+{
+    let mut n = 0;
+    while n < text.len() {
+        let more = stdin.read(&mut text[n..])?;
+        if more == 0 {
+            break;
+        }
+        n += more;
+    }
+    Ok(n)
+}
+
+fn main(rt: HostRuntime) -> io::Result<()> {
     let mut text = space();
-    let n = io::read_full(0, &mut text);
-    print_tally(tally_text(&text[..n]));
+    let n = read_full(&mut rt.stdin(), &mut text)?;
+    print_tally(&rt, tally_text(&text[..n]))
 }

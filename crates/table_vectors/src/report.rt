@@ -1,36 +1,36 @@
 // Printing a tally, a line for each number that has a vector.
 use crate::count::{Count, Tally};
+use std::io;
 
-fn print_count(c: Count) {
-    io::write_all(1, b" ");
-    io::print_decimal(1, c.vectors);
-    io::write_all(1, b" ");
-    io::print_decimal(1, c.agreed);
-    io::write_all(1, b"\n");
+fn print_count(rt: &impl Print, c: Count) -> io::Result<()> {
+    println!(rt; " {} {}", c.vectors, c.agreed)
 }
 
-fn print_number(number: usize, c: Count) {
+fn print_number(rt: &impl Print, number: usize, c: Count) -> io::Result<()> {
     if 0 < c.vectors {
-        io::print_decimal(1, number as u64);
-        print_count(c);
+        print!(rt; "{number}")?;
+        print_count(rt, c)?;
     }
+    Ok(())
 }
 
-fn print_numbers(counts: [Count; 16]) {
+fn print_numbers(rt: &impl Print, counts: [Count; 16]) -> io::Result<()> {
     for number in 0..16 {
-        print_number(number, counts[number]);
+        print_number(rt, number, counts[number])?;
     }
+    Ok(())
 }
 
-pub fn print_tally(t: Tally) {
-    io::write_all(1, b"refusal vectors agreed\n");
+pub fn print_tally(rt: &impl Print, t: Tally) -> io::Result<()> {
+    println!(rt; "refusal vectors agreed")?;
     let counts = t.by_number;
-    print_numbers(counts);
-    io::write_all(1, b"all");
-    print_count(t.all);
-    io::write_all(1, b"variables");
-    print_count(t.variables);
+    print_numbers(rt, counts)?;
+    print!(rt; "all")?;
+    print_count(rt, t.all)?;
+    print!(rt; "variables")?;
+    print_count(rt, t.variables)?;
     if t.broken {
-        io::write_all(1, b"the input was not read to its end\n");
+        println!(rt; "the input was not read to its end")?;
     }
+    Ok(())
 }

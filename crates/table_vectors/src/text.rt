@@ -1,6 +1,6 @@
 // Bytes, numbers and their places in a text.
 ghost use Rattle.std.specs.Prelude.{◌<◌, ◌≤◌, length};
-ghost use Rattle.io.specs.Counts.{IsPrefixLen};
+ghost use Rattle.std.specs.Counts.{IsPrefixLen};
 
 // More than any number that is read.
 const TOO_MANY: usize = 1000000;

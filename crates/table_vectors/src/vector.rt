@@ -40,7 +40,7 @@ fn run_vector(t: Tally, e: Expected, bytes: &[u8]) -> Tally {
 
 // The bytes are `-` where there are none.
 fn run_bytes(t: Tally, e: Expected, text: &[u8]) -> Tally {
-    let mut space = io::buffer();
+    let mut space = [0u8; 4096];
     let n = bytes_of(text, &mut space);
     if text.len() != std::num::wrapping_add_usize(n, n) && text.len() != 1 {
         return out_of_form(t);

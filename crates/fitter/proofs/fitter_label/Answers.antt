@@ -5,6 +5,6 @@ use Rattle.fitter.proofs.fitter_label.Goals as goal
 
 pub returns : goal.returns
 returns c = record {
-      value = c.verdict_number.ensures ∙ ap verdict_number c.label_nodes.ensures.value;
-      out_after = c.label_nodes.ensures.out_after;
-    }
+  value = c.verdict_number.ensures ∙ ap verdict_number c.label_nodes.ensures.value;
+  out_after = c.label_nodes.ensures.out_after;
+}

@@ -1,0 +1,71 @@
+// The face of the fitter to C: each export is the call of that name of the crate fitter, under the same contract. Nothing else is exported.
+#![tactic(auto)]
+
+ghost use Rattle.std.specs.Prelude.{◌≡◌, length};
+ghost use Rattle.table.specs.Verdict.{verdict_number};
+ghost use Rattle.ctl.specs.Tests.{judge_verdict};
+ghost use Rattle.label.specs.Calls.{label_verdict, label_buffer, holding_answer, holding_buffer, holding_number};
+ghost use Rattle.reader.specs.Read.{read_answer, read_buffer, read_number};
+ghost use Rattle.repair.specs.Answer.{answer_number};
+ghost use Rattle.repair.specs.Outcome.{repair_answer, repair_list, repair_bytes, repair_words};
+ghost use Rattle.fitter.specs.Exports.{holding_count, read_length, repair_choices, repair_price, repair_settled};
+
+// 0 found, 14 none or 15 spent, and the choices, the price and the settled steps stored; or the refusal's number and nothing stored or written.
+#[unsafe(no_mangle)]
+pub extern "C" fn fitter_repair(
+    table: &[u8],
+    cap: u64,
+    list: &mut [u8],
+    bytes: &mut [u8],
+    words: &mut [u32],
+    choices: &mut u64,
+    price: &mut u32,
+    settled: &mut u32,
+) -> u32
+    ensures value { result ≡ answer_number (repair_answer table.now cap list.old bytes.old words.old) }
+    ensures list_after { list.new ≡ repair_list table.now cap list.old bytes.old words.old }
+    ensures bytes_after { bytes.new ≡ repair_bytes table.now cap list.old bytes.old words.old }
+    ensures words_after { words.new ≡ repair_words table.now cap list.old bytes.old words.old }
+    ensures choices_after { choices.new ≡ repair_choices (repair_answer table.now cap list.old bytes.old words.old) choices.old }
+    ensures price_after { price.new ≡ repair_price (repair_answer table.now cap list.old bytes.old words.old) price.old }
+    ensures settled_after { settled.new ≡ repair_settled (repair_answer table.now cap list.old bytes.old words.old) settled.old }
+{
+    fitter::fitter_repair(table, cap, list, bytes, words, choices, price, settled)
+}
+
+// 0 where the list is a repair of the table in the narrower sense, else the refusal's number.
+#[unsafe(no_mangle)]
+pub extern "C" fn fitter_judge(table: &[u8], list: &[u8]) -> u32
+    ensures { result ≡ verdict_number (judge_verdict table.now list.now) }
+{
+    fitter::fitter_judge(table, list)
+}
+
+// 0 and an entry for each node, or the refusal's number and nothing written.
+#[unsafe(no_mangle)]
+pub extern "C" fn fitter_label(table: &[u8], list: &[u8], out: &mut [u32]) -> u32
+    ensures value { result ≡ verdict_number (label_verdict table.now list.now (length out.old)) }
+    ensures out_after { out.new ≡ label_buffer table.now list.now out.old }
+{
+    fitter::fitter_label(table, list, out)
+}
+
+// 0, the states of the root's set in reading order and their count, or the refusal's number and nothing written.
+#[unsafe(no_mangle)]
+pub extern "C" fn fitter_holding(table: &[u8], list: &[u8], out: &mut [u8], count: &mut u32) -> u32
+    ensures value { result ≡ holding_number (holding_answer table.now list.now (length out.old)) }
+    ensures out_after { out.new ≡ holding_buffer table.now list.now out.old }
+    ensures count_after { count.new ≡ holding_count (holding_answer table.now list.now (length out.old)) count.old }
+{
+    fitter::fitter_holding(table, list, out, count)
+}
+
+// 0, the packed table of the sheet written and its length stored, or the refusal's number and nothing written.
+#[unsafe(no_mangle)]
+pub extern "C" fn fitter_read(text: &[u8], out: &mut [u8], length: &mut u64) -> u32
+    ensures value { result ≡ read_number (read_answer text.now out.old) }
+    ensures out_after { out.new ≡ read_buffer text.now out.old }
+    ensures length_after { length.new ≡ read_length (read_answer text.now out.old) length.old }
+{
+    fitter::fitter_read(text, out, length)
+}
