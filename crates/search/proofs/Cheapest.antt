@@ -160,8 +160,8 @@ module _ {e : ℕ} {Model : List ℕ → Type 0} {close : List (Literal ℕ) →
           (both_choices s (omega arith) i (walk uncapped close price (up_from (suc k) n)) rest b count)
 
   -- all that is walked answers for all models
-  all-answers : Walks [] unfound (walk_all uncapped close price (below e))
-  all-answers = rw below_up_from
+  all_answers : Walks [] unfound (walk_all uncapped close price (below e))
+  all_answers = rw below_up_from
       (pursue_answers 0 [] right.fine_none (walk uncapped close price (up_from 0 e)) (stands_first right) (walk_answers e 0 (omega arith) []) unfound 0)
 
   -- the number of settled steps that each answer carries
@@ -171,7 +171,7 @@ module _ {e : ℕ} {Model : List ℕ → Type 0} {close : List (Literal ℕ) →
   -- the search gives none exactly where there is no model
   pub search_none : ((c : ℕ) × (k : ℕ) × (search uncapped close price (below e) ≡ none c k)) ↔ ((list : List ℕ) → ¬ Model list)
   unfolding search first
-  search_none = (λ r. to (walk_all uncapped close price (below e)) all-answers r.0 r.1 r.2, from (walk_all uncapped close price (below e)) all-answers)
+  search_none = (λ r. to (walk_all uncapped close price (below e)) all_answers r.0 r.1 r.2, from (walk_all uncapped close price (below e)) all_answers)
     where
       no_model : (b : Best) → b ≡ unfound → Answers [] unfound b → (list : List ℕ) → ¬ Model list
       no_model b q (stays _ empty) list model = true≢false (empty list (model, member_none (AgreesWith list)))
@@ -194,7 +194,7 @@ module _ {e : ℕ} {Model : List ℕ → Type 0} {close : List (Literal ℕ) →
   -- and what it finds gives the cheapest model, with its price
   pub search_found : (m : Marks) (p c k : ℕ) → search uncapped close price (below e) ≡ found m p c k → Cheapest cost Model (bytes_of e m) × (p ≡ cost (bytes_of e m))
   unfolding search first
-  search_found m p c k = by (walk_all uncapped close price (below e)) all-answers
+  search_found m p c k = by (walk_all uncapped close price (below e)) all_answers
     where
       whole : Cheapest cost (Among Model []) (bytes_of e m) → Cheapest cost Model (bytes_of e m)
       whole f = record {
