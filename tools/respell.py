@@ -121,7 +121,7 @@ def table(root):
     for n in sorted(every):
         if MADE.match(n) or n in out:
             continue
-        new = dashes(snake(n), names)
+        new = snake(n).replace("-", "_") if n in specs or n in fields else dashes(snake(n), names)
         if (new in functions and n not in specs) or (new != n and new in every):
             new += "_lem"
         new = CHOSEN.get(n, new)
@@ -148,8 +148,9 @@ def turn_code(piece, names, fields, rust=False):
 
 
 def turn_prose(piece, names):
-    """In a comment: what stands in a code span, and a word in camel case, which is never prose."""
-    piece = re.sub(r"`[^`\n]*`", lambda s: WORD.sub(lambda m: names.get(m[0], m[0]), s[0]), piece)
+    """In a comment: what stands in a code span, and a word in camel case, which is never prose. A function of src/ keeps its name."""
+    names = {a: b for a, b in names.items() if not re.fullmatch(r"[a-z0-9_]+", a)}
+    piece = re.sub(r"`([^`\n]*)`", lambda s: "`" + WORD.sub(lambda m: names.get(m[0], m[0]), s[1]) + "`", piece)
     return re.sub(r"(?<![\w`-])[a-z]+[A-Z]\w*(?![\w-])", lambda m: names.get(m[0], m[0]), piece)
 
 

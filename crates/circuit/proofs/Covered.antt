@@ -3,7 +3,7 @@ use Prim.Native.Nat.{ℕ, ◌<◌}
 use native.Mathlib.Omega.{arith}
 use mathlib.Core.Path.{refl}
 use mathlib.Core.List.Memᴰ
-use mathlib.Core.List.{[], Memᴰ}
+use mathlib.Core.List.{Memᴰ}
 use lib.ListN.{length}
 use Rattle.table.specs.Table.{Table, node_at}
 use Rattle.table.specs.Facts.{Wellformed}

@@ -117,7 +117,7 @@ module _ (T : Table) where
       (failed : Bool) → p.done.report.fails ≡ failed
       → Advances T (λ K. (k : ℕ) → k < n → Q k K) M p.done × R p.left (knowledge T p.done.memory)
       → (let v = f p.left p.done.memory in Advances T (Q n) p.done.memory v.done × R v.left (knowledge T v.done.memory))
-      → let v = cond failed p (p thenVisit f) in Advances T (λ K. (k : ℕ) → k < suc n → Q k K) M v.done × R v.left (knowledge T v.done.memory)
+      → let v = cond failed p (p then_visit f) in Advances T (λ K. (k : ℕ) → k < suc n → Q k K) M v.done × R v.left (knowledge T v.done.memory)
   next_or-not Q R n p f true e before next = (advance_failed e before.0, before.1)
   next_or-not {M = M} Q R n p f false e before next =
       (advance_so (λ q k l. below_more (λ k. Q k (knowledge T M)) n q.0 q.1 k (omega arith)) (advance_then before.0 next.0), next.1)

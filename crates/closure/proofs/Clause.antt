@@ -44,9 +44,9 @@ module _ (m : Marks) where
       go false e h rest = ⊎_elim (λ p. (Memᴰ.head p, ap (contradicted m) p ∙ e)) (λ n. later (rest n)) (Memᴰ.cases_cons h)
 
   -- a literal that is not contradicted is open
-  open_full : {C : List (Literal ℕ)} {l : Literal ℕ} → Memᴰ l C → contradicted m l ≡ false → Memᴰ l (open_in m C)
+  open_full : {l : Literal ℕ} {C : List (Literal ℕ)} → Memᴰ l C → contradicted m l ≡ false → Memᴰ l (open_in m C)
   unfolding open_in
-  open_full (Memᴰ.head p) e = rw (sym (ap (contradicted m) p) ∙ e) (Memᴰ.head p)
+  open_full {l} (Memᴰ.head p) e = rw (sym (ap (contradicted m) p) ∙ e) (Memᴰ.head p)
   open_full {l} (Memᴰ.tail {x = x} {xs = C} n) e = go (contradicted m x) (open_full n e)
     where
       go : (b : Bool) → Memᴰ l (open_in m C) → Memᴰ l (cond b (open_in m C) (x ∷ open_in m C))

@@ -15,7 +15,7 @@ use Rattle.table.specs.Rows.{target_set}
 use Rattle.ctl.specs.Rule.{root_index}
 use Rattle.ctl.specs.Kept.{Initial}
 use Rattle.circuit.specs.Logic.{Literal, pos, neg}
-use Rattle.circuit.specs.Variables.{Var, step, kept, value}
+use Rattle.circuit.specs.Variables.{step, kept, value}
 use Rattle.circuit.specs.Clauses.{initials, demands}
 use Rattle.circuit.proofs.Lists.{Each, each_more, each_one, each_map}
 use Rattle.circuit.proofs.Clauses.{step_demand, start_demand, root_demand, in_initials, each_demand}

@@ -1,4 +1,4 @@
--- The laws of `bottomUp`: one value for each node, made of the values of its children, which stand before it.
+-- The laws of `bottom_up`: one value for each node, made of the values of its children, which stand before it.
 use Prim.Native.Nat.{ℕ, zero, suc, ◌+◌, ◌<◌}
 use native.Mathlib.Nat.{le_of_suc-le-suc, not-suc-le-zero}
 use native.Mathlib.Omega.{arith}

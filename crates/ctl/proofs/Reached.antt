@@ -1,4 +1,4 @@
--- `reachedSet` computes the reached states.
+-- `reached_set` computes the reached states.
 use Prim.Native.Nat.{ℕ, zero, suc, ◌≤◌, ◌<◌, zero-le, suc-le-suc}
 use mathlib.Core.Path.{◌≡◌, sym, ap, ◌∙◌}
 use mathlib.Core.Bool.{Bool, true, false, ◌||◌, and-eq-true_iff}

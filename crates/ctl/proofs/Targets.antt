@@ -1,4 +1,4 @@
--- `keptSteps`, `targets` and `isKept` compute the kept steps, the next states and the kept states.
+-- `kept_steps`, `targets` and `is_kept` compute the kept steps, the next states and the kept states.
 use Prim.Native.Nat.{ℕ, zero, suc, ◌<◌, zero-le, suc-le-suc}
 use native.Mathlib.Nat.{le_of_suc-le-suc, not-suc-le-zero}
 use native.Mathlib.Omega.{arith}

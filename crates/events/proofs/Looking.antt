@@ -1,28 +1,24 @@
 -- Looking at cells: nothing to look at, nothing added, something added; and one thing after the other.
 use Prim.Native.Nat.{ℕ, ◌+◌, ◌<◌}
 use native.Mathlib.Decide.{ℕ_discrete}
-use mathlib.Core.Path.{◌≡◌, refl, sym, ap, subst, ◌∙◌}
+use mathlib.Core.Path.{◌≡◌, refl, sym, subst, ◌∙◌}
 use mathlib.Core.Bool.{Bool, true, false, cond, ◌||◌, true≢false}
-use mathlib.Core.Logic.{◌⊎◌, inl, inr, ⊎_elim}
+use mathlib.Core.Logic.{◌⊎◌, ⊎_elim}
 use mathlib.Core.List.{List}
 use borrow.Author.Tests.{not-false}
 use lib.Dec.{eqb}
 use lib.ListN.{length, get_or, set, length-set}
 use lib.Seq.{get_or-set_same, get_or-set_other}
-use Rattle.sets.specs.Member.{member}
-use Rattle.sets.proofs.Laws.{member-zero}
 use Rattle.table.specs.Table.{Table, node_at}
 use Rattle.table.specs.Facts.{Wellformed}
-use Rattle.table.proofs.Bools.{or_neither, or_left, or_right, or_parts}
+use Rattle.table.proofs.Bools.{or_neither}
 use Rattle.ctl.specs.Rule.{operator_of}
-use Rattle.rows.specs.declared.row.Row.{Row}
 use Rattle.rows.specs.declared.row.Report.{Report}
-use Rattle.rows.specs.Row.{known, Within, ClearAt}
-use Rattle.rows.specs.Words.{row_at, both_reports, quiet, step_place}
+use Rattle.rows.specs.Row.{Within}
+use Rattle.rows.specs.Words.{row_at, both_reports, quiet}
 use Rattle.propagate.specs.Memory.{Memory, node_place, kept_place, node_row}
 use Rattle.readers.specs.Readers.{Raised}
-use Rattle.closure.specs.Knowledge.{Knowledge, knowledge, Sized, level_base, second_child}
-use Rattle.closure.specs.Rest.{RestKept, RestNode}
+use Rattle.closure.specs.Knowledge.{Knowledge, knowledge, Sized, second_child}
 use Rattle.closure.specs.Advance.{Founded, Grows, Advance}
 use Rattle.events.specs.Watched.{More, Watched, Noted}
 use Rattle.events.specs.Looked.{Always, Looked}

@@ -201,7 +201,7 @@ module _ (N : ℕ → Type 0) (K : Type 0) (W : ℕ → Type 0) (size : ℕ) whe
   -- ---- each with what the one before it left, until one fails
 
   next_or-not : {S : Type 0} {M : Memory} (p : Visit S) (f : S → Memory → Visit S) (failed : Bool) → Moves M p.done
-      → Moves p.done.memory (f p.left p.done.memory).done → Moves M (cond failed p (p thenVisit f)).done
+      → Moves p.done.memory (f p.left p.done.memory).done → Moves M (cond failed p (p then_visit f)).done
   next_or-not p f true before then = before
   next_or-not p f false before then = moves_then before then
 

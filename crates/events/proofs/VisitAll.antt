@@ -1,12 +1,12 @@
 -- Looking at all nodes in their order, at first and at the end: what a sweep that adds nothing leaves is at rest everywhere.
-use Prim.Native.Nat.{ℕ, suc, ◌+◌, ◌-◌, ◌≤◌, ◌<◌}
+use Prim.Native.Nat.{ℕ, ◌+◌, ◌<◌}
 use native.Mathlib.Omega.{arith}
 use native.Mathlib.Decide.{dec_lt}
 use mathlib.Core.Path.{◌≡◌, refl, sym, ap, subst, ◌∙◌}
 use mathlib.Core.Bool.{Bool, true, false, true≢false, false≢true}
-use mathlib.Core.Logic.{◌⊎◌, inl, inr, ⊎_elim}
+use mathlib.Core.Logic.{◌⊎◌, inl, inr}
 use mathlib.Core.List.{List}
-use lib.ListN.{length, get_or}
+use lib.ListN.{get_or}
 use Rattle.sets.specs.Member.{member}
 use Rattle.sets.proofs.Laws.{member-zero}
 use Rattle.table.specs.Table.{Table, node_at}
@@ -19,10 +19,9 @@ use Rattle.propagate.proofs.Ordered.{ordered-below, ordered_twice}
 use Rattle.readers.specs.Readers.{AreReaders, StepsMarked}
 use Rattle.closure.specs.Knowledge.{Knowledge, knowledge, Sized, second_child}
 use Rattle.closure.specs.Rest.{RestStart, Rest}
-use Rattle.closure.specs.Advance.{Advance}
 use Rattle.events.specs.Watched.{Watched, RestBut}
 use Rattle.events.specs.Looked.{Always, Swept, Looked}
-use Rattle.closure.proofs.Advances.{advance_so, advance_failing, advance_failed}
+use Rattle.closure.proofs.Advances.{advance_failing, advance_failed}
 use Rattle.closure.proofs.InsideParts.{level_last}
 use Rattle.events.proofs.Noting.{out_of}
 use Rattle.events.proofs.Looking.{looked_still, looked_so, looked_then}

@@ -1,7 +1,7 @@
 -- Demand 3, repairer and judge. "They share the table and a list of kept steps, no more": crates.txt shows it, since the judge's crates and the repairer's
 -- have only the table, its tests and its meaning (table, accept, ctl, sets) in common. Which states are reached each works out by its own code.
 --
--- `repairAnswer`, `repairList` and `judgeVerdict` are what the contracts of `fitter_repair` and `fitter_judge` equate their results with.
+-- `repair_answer`, `repair_list` and `judge_verdict` are what the contracts of `fitter_repair` and `fitter_judge` equate their results with.
 use Rattle.std.specs.Prelude.{ℕ, ◌≤◌, ◌<◌, ◌≡◌, ◌↔◌, List, [], length, take}
 use Rattle.std.proofs.Math.Option.{some}
 use Rattle.table.specs.declared.refusal.Verdict.TheVariants.{Accepted}
@@ -19,7 +19,7 @@ use Rattle.repair.specs.declared.answer.Answer.TheVariants.{Found, None, Spent}
 use Rattle.repair.specs.Answer.{answer_choices, answer_settled}
 use Rattle.repair.specs.Outcome.{repair_answer, repair_list}
 
--- an accepted table, and long enough buffers: the list has e bytes, and both work buffers V entries. `variableFormula` is 01's V, and of an accepted
+-- an accepted table, and long enough buffers: the list has e bytes, and both work buffers V entries. `variable_formula` is 01's V, and of an accepted
 -- table it is the number of the circuit's variables (circuit/proofs/Exact.antt).
 pub record LongEnough (table list bytes words : List ℕ) : Type 0 where
   pub accepted : table_verdict table ≡ Accepted

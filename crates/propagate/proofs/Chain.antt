@@ -15,8 +15,8 @@ use Rattle.propagate.proofs.Visits.{told}
 
 -- a row added to the rows
 pub added : (rows : List ℕ) (at : ℕ) {x y : Row} {rows' : List ℕ} {r : Report}
-    → x ≡ y → (r ≡ report_of rows at x) × (rows' ≡ joined rows at x) → (w : List ℕ) → stepped rows' w r ≡ add_row at y (memory rows w)
-added rows at e did w = (λ i. stepped (did.1 i) w (did.0 i)) ∙ ap (λ (z : Row). add_row at z (memory rows w)) e
+    → x ≡ y → r ≡ report_of rows at x → rows' ≡ joined rows at x → (w : List ℕ) → stepped rows' w r ≡ add_row at y (memory rows w)
+added rows at e report here w = (λ i. stepped (here i) w (report i)) ∙ ap (λ (z : Row). add_row at z (memory rows w)) e
 
 -- a call after others, with both reports
 pub after : {rows words rows' words' : List ℕ} {p q r : Report} {S : Stepped} (f : Memory → Stepped)
@@ -28,14 +28,14 @@ after {rows} {words} {rows'} {words'} {p} f before here e =
 
 -- a row added after others
 pub after_add : {rows words rows' : List ℕ} {p q r : Report} {S : Stepped} {x y : Row} (at : ℕ)
-    → stepped rows words p ≡ S → x ≡ y → (q ≡ report_of rows at x) × (rows' ≡ joined rows at x) → r ≡ both_reports p q → stepped rows' words r ≡ (S and_then add_row at y)
-after_add {rows} {words} {y = y} at before e did both = after (add_row at y) before (added rows at e did words) both
+    → stepped rows words p ≡ S → x ≡ y → q ≡ report_of rows at x → rows' ≡ joined rows at x → r ≡ both_reports p q → stepped rows' words r ≡ (S and_then add_row at y)
+after_add {rows} {words} {y = y} at before e report here both = after (add_row at y) before (added rows at e report here words) both
 
 -- of several, the next has its turn where none has failed, and none where one has
 module _ {S : Type 0} (f : ℕ → S → Memory → Visit S) (k : ℕ) (s : S) (M : Memory) where
-  pub each_on : (each_with f k s M).done.report.fails ≡ false → each_with f (suc k) s M ≡ (each_with f k s M thenVisit f k)
+  pub each_on : (each_with f k s M).done.report.fails ≡ false → each_with f (suc k) s M ≡ (each_with f k s M then_visit f k)
   unfolding each_with
-  each_on so = told (each_with f k s M) (each_with f k s M thenVisit f k) so
+  each_on so = told (each_with f k s M) (each_with f k s M then_visit f k) so
 
   pub each_failed : (each_with f k s M).done.report.fails ≡ true → (d : ℕ) → each_with f (k + d) s M ≡ each_with f k s M
   unfolding each_with
@@ -43,24 +43,24 @@ module _ {S : Type 0} (f : ℕ → S → Memory → Visit S) (k : ℕ) (s : S) (
   each_failed so (suc d) =
       let before = each_failed so d in
       ap (λ (j : ℕ). each_with f j s M) (add-suc k d)
-      ∙ told (each_with f (k + d) s M) (each_with f (k + d) s M thenVisit f (k + d)) (ap (λ (v : Visit S). v.done.report.fails) before ∙ so)
+      ∙ told (each_with f (k + d) s M) (each_with f (k + d) s M then_visit f (k + d)) (ap (λ (v : Visit S). v.done.report.fails) before ∙ so)
       ∙ before
 
 -- the next of several calls, each with what the one before it left, where none has failed
 pub after_visit : {S : Type 0} (f : ℕ → S → Memory → Visit S) (k : ℕ) (s : S) (M : Memory) {rows words rows' words' : List ℕ} {p q r : Report} {z z' : S}
-    → p.fails ≡ false → (stepped rows words p ≡ (each_with f k s M).done) × (z ≡ (each_with f k s M).left)
-    → (stepped rows' words' q ≡ (f k z (memory rows words)).done) × (z' ≡ (f k z (memory rows words)).left) → r ≡ both_reports p q
+    → p.fails ≡ false → stepped rows words p ≡ (each_with f k s M).done → z ≡ (each_with f k s M).left
+    → stepped rows' words' q ≡ (f k z (memory rows words)).done → z' ≡ (f k z (memory rows words)).left → r ≡ both_reports p q
     → (stepped rows' words' r ≡ (each_with f (suc k) s M).done) × (z' ≡ (each_with f (suc k) s M).left)
-after_visit {S} f k s M {rows} {words} {rows'} {words'} {p} so before here e = (
+after_visit {S} f k s M {rows} {words} {rows'} {words'} {p} so before left here left' e = (
   ap (λ (z : Report). stepped rows' words' z) e
-      ∙ ap (λ (T : Stepped). record { memory = T.memory; report = both_reports p T.report }) here.0
-      ∙ (λ i. let v = f k (before.1 i) (before.0 i).memory in record { memory = v.done.memory; report = both_reports (before.0 i).report v.done.report })
+      ∙ ap (λ (T : Stepped). record { memory = T.memory; report = both_reports p T.report }) here
+      ∙ (λ i. let v = f k (left i) (before i).memory in record { memory = v.done.memory; report = both_reports (before i).report v.done.report })
       ∙ sym (ap (λ (v : Visit S). v.done) on),
-  here.1 ∙ (λ i. (f k (before.1 i) (before.0 i).memory).left) ∙ sym (ap (λ (v : Visit S). v.left) on),
+  left' ∙ (λ i. (f k (left i) (before i).memory).left) ∙ sym (ap (λ (v : Visit S). v.left) on),
 )
   where
-    on : each_with f (suc k) s M ≡ (each_with f k s M thenVisit f k)
-    on = each_on f k s M (sym (ap (λ (T : Stepped). T.report.fails) before.0) ∙ so)
+    on : each_with f (suc k) s M ≡ (each_with f k s M then_visit f k)
+    on = each_on f k s M (sym (ap (λ (T : Stepped). T.report.fails) before) ∙ so)
 
 -- what fits the memory fits one of the same size
 pub fits_on : {n : ℕ} {x : Fixpoint} (rows words rows' words' : List ℕ) → Fits n x rows words → length rows' ≡ length rows → length words' ≡ length words
@@ -70,5 +70,5 @@ fits_on rows words rows' words' fits r w = record {
   node_below = fits.node_below;
   a_below = fits.a_below;
   b_below = fits.b_below;
-  levels-below = rw w fits.levels-below;
+  levels_below = rw w fits.levels_below;
 }

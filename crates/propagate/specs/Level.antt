@@ -79,4 +79,4 @@ pub record Fits (n : ℕ) (x : Fixpoint) (rows words : List ℕ) : Type 0 where
   pub node_below : x.node < 32
   pub a_below : x.a < 32
   pub b_below : x.b < 32
-  pub levels-below : x.base + 2 * (n - 1) ≤ length words
+  pub levels_below : x.base + 2 * (n - 1) ≤ length words

@@ -66,12 +66,12 @@ passed s M = record { done = failing false M; left = s }
 -- one after another
 infixl 20 ◌then_visit◌
 abbrev pub ◌then_visit◌ : {S : Type 0} → Visit S → (S → Memory → Visit S) → Visit S
-p thenVisit f = let v = f p.left p.done.memory in record { done = p.done and_then (λ _. v.done); left = v.left }
+p then_visit f = let v = f p.left p.done.memory in record { done = p.done and_then (λ _. v.done); left = v.left }
 
 -- for each number below k, each with what the one before it left, until one fails
 unfoldable pub each_with : {S : Type 0} → (ℕ → S → Memory → Visit S) → ℕ → S → Memory → Visit S
 each_with f zero s M = passed s M
-each_with f (suc k) s M = let p = each_with f k s M in cond p.done.report.fails p (p thenVisit f k)
+each_with f (suc k) s M = let p = each_with f k s M in cond p.done.report.fails p (p then_visit f k)
 
 -- the k-th of n numbers, going up or going down
 abbrev pub ordered : Bool → ℕ → ℕ → ℕ
@@ -84,15 +84,15 @@ abbrev pub ahead_in : List ℕ → ℕ → Bool → Row → Memory → Row
 ahead_in targets set e end M = turned e (ahead_at (λ s. get_or targets s 0) (λ s. row_at M.rows (step_place s)) set (turned e end))
 
 module _ (targets : List ℕ) (n : ℕ) where
-  -- back from N to the steps, and to the row of the ends by `addEnd`
+  -- back from N to the steps, and to the row of the ends by `add_end`
   abbrev pub go_back : Bool → Row → Row → (Row → Memory → Stepped) → Memory → Stepped
-  go_back e ahead end addEnd M =
+  go_back e ahead end add_end M =
       (record {
         memory = memory (back_rows targets (turned e ahead) (turned e end) M.rows n) M.words;
         report = back_report targets (turned e ahead) (turned e end) M.rows n;
       })
-      and_then addEnd (turned e (back_row targets (turned e ahead) (turned e end) M.rows n))
+      and_then add_end (turned e (back_row targets (turned e ahead) (turned e end) M.rows n))
 
   -- the same, where there is something to take back
   abbrev pub go_back_more : Bool → Row → Row → (Row → Memory → Stepped) → Memory → Stepped
-  go_back_more e more end addEnd M = cond (is_none more) (failing false M) (go_back e more end addEnd M)
+  go_back_more e more end add_end M = cond (is_none more) (failing false M) (go_back e more end add_end M)

@@ -48,7 +48,7 @@ module _ (T : Table) (wf : Wellformed T) (list : List ℕ) where
   reached_round m reached next b r = record { small = r.small; sound = r.no_other b.sound; soon = more }
     where
       more : (k s : ℕ) → k ≤ m + 1 → ReachedIn T list k s → member next s ≡ true
-      more zero s h i = r.has-set s (b.soon zero s (omega arith) i)
+      more zero s h i = r.has_set s (b.soon zero s (omega arith) i)
       more (suc k) t h i = r.has_ends i.0 t i.2 (b.soon k i.0 (omega arith) i.1)
 
   all_reached : (m reached : ℕ) → ReachedBy T list m reached → ((k s : ℕ) → ReachedIn T list k s → member reached s ≡ true) → reached ≡ set_of 32 (is_reached T list)

@@ -66,14 +66,14 @@ kept_all T list j kept b done = set_of_unique 32 (is_kept T list) kept b.small (
 -- the set, and the ends of the kept steps before j out of it
 pub record RoundBefore (T : Table) (list : List ℕ) (set j next : ℕ) : Type 0 where
   pub small : next < 2 ^ 32
-  pub has-set : (s : ℕ) → member set s ≡ true → member next s ≡ true
+  pub has_set : (s : ℕ) → member set s ≡ true → member next s ≡ true
   pub has_ends : (i : ℕ) → i < j → get_or list i 0 ≡ 1 → member set (step_at T i).from ≡ true → member next (step_at T i).to ≡ true
   pub no_other : ((s : ℕ) → member set s ≡ true → Reached T list s) → (s : ℕ) → member next s ≡ true → Reached T list s
 
 pub round_none : (T : Table) (list : List ℕ) (set : ℕ) → set < 2 ^ 32 → RoundBefore T list set 0 set
 round_none T list set small = record {
   small = small;
-  has-set = λ s e. e;
+  has_set = λ s e. e;
   has_ends = λ i h k m. absurd (omega arith);
   no_other = λ all. all;
 }
@@ -83,10 +83,10 @@ module _ (T : Table) (list : List ℕ) (set j next : ℕ) (b : RoundBefore T lis
       → k ≡ set_of 32 (λ t. member next t || (member next (step_at T j).from && eqb t (step_at T j).to)) → RoundBefore T list set (j + 1) k
   round_with h one l k e = rw e (record {
     small = set_of-lt 32 _;
-    has-set = λ s m. still s (b.has-set s m);
+    has_set = λ s m. still s (b.has_set s m);
     has_ends = below_more (λ i. get_or list i 0 ≡ 1 → member set (step_at T i).from ≡ true → member _ (step_at T i).to ≡ true) j
         (λ i l' o m. still _ (b.has_ends i l' o m))
-        (λ o m. (in_set 32 _ _).1 (l, or_right (member next _) _ (parts_and _ _ (b.has-set _ m) (eq-eqb (step_at T j).to _ refl))));
+        (λ o m. (in_set 32 _ _).1 (l, or_right (member next _) _ (parts_and _ _ (b.has_set _ m) (eq-eqb (step_at T j).to _ refl))));
     no_other = λ all s m. ⊎_elim (b.no_other all s)
         (λ q. let p = and_parts (member next (step_at T j).from) _ q in
         rw (eqb-true s (step_at T j).to p.1) (reached_on T list _ _ (b.no_other all _ p.0) (next_at T list j h one)))
@@ -99,7 +99,7 @@ module _ (T : Table) (list : List ℕ) (set j next : ℕ) (b : RoundBefore T lis
   pub round-without : ¬ (get_or list j 0 ≡ 1) → RoundBefore T list set (j + 1) next
   round-without d = record {
     small = b.small;
-    has-set = b.has-set;
+    has_set = b.has_set;
     has_ends = below_more (λ i. get_or list i 0 ≡ 1 → member set (step_at T i).from ≡ true → member next (step_at T i).to ≡ true) j b.has_ends (λ o. absurd (d o));
     no_other = b.no_other;
   }
@@ -107,7 +107,7 @@ module _ (T : Table) (list : List ℕ) (set j next : ℕ) (b : RoundBefore T lis
 pub round-all : (T : Table) (list : List ℕ) (set j next : ℕ) → RoundBefore T list set j next → length T.steps ≤ j → Round T list set next
 round-all T list set j next b done = record {
   small = b.small;
-  has-set = b.has-set;
+  has_set = b.has_set;
   has_ends = λ s t h m. rw h.enters at (b.has_ends h.step (omega (arith, h.listed)) h.kept (rw h.leaves m));
   no_other = b.no_other;
 }

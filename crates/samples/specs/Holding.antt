@@ -32,19 +32,19 @@ held table list count after = record { table = table; list = list; number = 0; c
 abbrev pub refused : List ℕ → List ℕ → ℕ → HoldingCase
 refused table list number = record { table = table; list = list; number = number; count = 0; after = replicate 5 9 }
 
-abbrev pub all-loops : List ℕ
-all-loops = 1 ∷ 1 ∷ 1 ∷ []
+abbrev pub all_loops : List ℕ
+all_loops = 1 ∷ 1 ∷ 1 ∷ []
 
 -- 01's sheet; then each way to be initial; then an initial state that is not kept, no state kept, and two lists that are refused
 abbrev pub holding_cases : List HoldingCase
 holding_cases =
     held sheet (1 ∷ 1 ∷ 0 ∷ 1 ∷ []) 2 (0 ∷ 1 ∷ 9 ∷ 9 ∷ 9 ∷ [])
-    ∷ held (loops 1 0 0) all-loops 3 (0 ∷ 1 ∷ 2 ∷ 9 ∷ 9 ∷ [])
-    ∷ held (loops 0 1 0) all-loops 3 (1 ∷ 0 ∷ 2 ∷ 9 ∷ 9 ∷ [])
-    ∷ held (loops 0 0 1) all-loops 3 (2 ∷ 0 ∷ 1 ∷ 9 ∷ 9 ∷ [])
-    ∷ held (loops 1 0 1) all-loops 3 (0 ∷ 2 ∷ 1 ∷ 9 ∷ 9 ∷ [])
-    ∷ held (loops 0 1 1) all-loops 3 (1 ∷ 2 ∷ 0 ∷ 9 ∷ 9 ∷ [])
-    ∷ held (loops 1 1 1) all-loops 3 (0 ∷ 1 ∷ 2 ∷ 9 ∷ 9 ∷ [])
+    ∷ held (loops 1 0 0) all_loops 3 (0 ∷ 1 ∷ 2 ∷ 9 ∷ 9 ∷ [])
+    ∷ held (loops 0 1 0) all_loops 3 (1 ∷ 0 ∷ 2 ∷ 9 ∷ 9 ∷ [])
+    ∷ held (loops 0 0 1) all_loops 3 (2 ∷ 0 ∷ 1 ∷ 9 ∷ 9 ∷ [])
+    ∷ held (loops 1 0 1) all_loops 3 (0 ∷ 2 ∷ 1 ∷ 9 ∷ 9 ∷ [])
+    ∷ held (loops 0 1 1) all_loops 3 (1 ∷ 2 ∷ 0 ∷ 9 ∷ 9 ∷ [])
+    ∷ held (loops 1 1 1) all_loops 3 (0 ∷ 1 ∷ 2 ∷ 9 ∷ 9 ∷ [])
     ∷ held (loops 0 1 1) (1 ∷ 0 ∷ 1 ∷ []) 2 (2 ∷ 0 ∷ 9 ∷ 9 ∷ 9 ∷ [])
     ∷ held (loops 0 1 1) (0 ∷ 0 ∷ 0 ∷ []) 0 (9 ∷ 9 ∷ 9 ∷ 9 ∷ 9 ∷ [])
     ∷ refused (loops 0 1 1) (1 ∷ 1 ∷ []) 9

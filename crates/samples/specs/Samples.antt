@@ -12,7 +12,7 @@ use Rattle.search.specs.TableSearch.{search_under, list_of}
 -- the price of the first of the two.
 pub data Answer : Type 0 where
   finds : List ℕ → List ℕ → ℕ → ℕ → ℕ → Answer
-  finds-none spends : ℕ → ℕ → Answer
+  finds_none spends : ℕ → ℕ → Answer
 
 -- a table searched under a cap, or a list judged
 pub data Case : Type 0 where
@@ -23,9 +23,9 @@ unfoldable pub answers : Table → Answer → Outcome → Bool
 answers T (finds before list p c k) (found m q d l) = same_code (list_of T m) before && same_code (strike T before) list && eqb q p && eqb d c && eqb l k
 answers T (finds before list p c k) (none d l) = false
 answers T (finds before list p c k) (spent d l) = false
-answers T (finds-none c k) (found m q d l) = false
-answers T (finds-none c k) (none d l) = eqb d c && eqb l k
-answers T (finds-none c k) (spent d l) = false
+answers T (finds_none c k) (found m q d l) = false
+answers T (finds_none c k) (none d l) = eqb d c && eqb l k
+answers T (finds_none c k) (spent d l) = false
 answers T (spends c k) (found m q d l) = false
 answers T (spends c k) (none d l) = false
 answers T (spends c k) (spent d l) = eqb d c && eqb l k
@@ -69,9 +69,9 @@ cases =
     ∷ judged sheet (1 ∷ 1 ∷ 1 ∷ 1 ∷ []) 13
     ∷ judged sheet (1 ∷ 1 ∷ 1 ∷ 0 ∷ []) 11
     ∷ judged sheet (0 ∷ 0 ∷ 0 ∷ 1 ∷ []) 12
-    ∷ searched (loop 1) 1000000 (finds-none 0 0)
+    ∷ searched (loop 1) 1000000 (finds_none 0 0)
     ∷ searched (loop 2) 1000000 (finds (1 ∷ []) (1 ∷ []) 0 0 1)
     ∷ searched (loop 3) 1000000 (finds (1 ∷ []) (1 ∷ []) 0 0 1)
     ∷ searched two_loops 1000000 (finds (1 ∷ 0 ∷ []) (1 ∷ 0 ∷ []) 255 0 2)
-    ∷ searched dead_end 1000000 (finds-none 0 0)
+    ∷ searched dead_end 1000000 (finds_none 0 0)
     ∷ []

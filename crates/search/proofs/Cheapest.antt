@@ -18,7 +18,7 @@ use Rattle.search.proofs.InOrder.{up_from, below_up_from}
 use Rattle.search.specs.TableSearch.{bytes_of}
 use Rattle.search.proofs.Agree.{AgreesWith, member_none, member_more, Among}
 use Rattle.search.proofs.Needs.{ClosureIsRight, PriceIsRight}
-use Rattle.search.proofs.Stand.{Stands, stands_first, stands_next, fine_choice, stands_choice, settled_same, settled-member, settled_only}
+use Rattle.search.proofs.Stand.{Stands, stands_first, stands_next, fine_choice, stands_choice, settled_same, settled_member, settled_only}
 use Rattle.search.proofs.Undercut.{under_below, under_lower, not_under_higher}
 use Rattle.ctl.specs.Levels.{below}
 
@@ -141,7 +141,7 @@ module _ {e : ℕ} {Model : List ℕ → Type 0} {close : List (Literal ℕ) →
       let same : price m ≡ cost (bytes_of e m) = priced.exact m s.settled in
       finds m (ap (find m) same) (subst (λ (p : ℕ). undercuts p b ≡ true) same cheap) (record {
         lowest = λ list a. rw (settled_only right s list a) (omega arith);
-        first = record { member = (settled-member right s, refl); before = λ list a other. absurd (other (settled_only right s list a.0)) };
+        first = record { member = (settled_member right s, refl); before = λ list a other. absurd (other (settled_only right s list a.0)) };
       })
 
   -- from where it stands, with the n steps from k on to pass, the walk answers for P

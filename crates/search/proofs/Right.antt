@@ -21,9 +21,9 @@ use Rattle.search.proofs.PriceRight.{price_is_right}
 use Rattle.ctl.specs.Levels.{below}
 
 -- the number that it carries is that of the closure of nothing
-settled-first : (T : Table) → Wellformed T → SettledCount T [] (settled (search_free T))
+settled_first : (T : Table) → Wellformed T → SettledCount T [] (settled (search_free T))
 unfolding table_search search
-settled-first T wf =
+settled_first T wf =
     let close = closure (variable_count T) (numbered_clauses T) in
     let steps = below (length T.steps) in
     subst (SettledCount T [])
@@ -44,5 +44,5 @@ search_is_right T wf =
       spent_over = search_cut close price steps;
       same_within = search_same close price steps;
       few_choices = rw length_tabulate at (search_few close price steps);
-      settled_exact = settled-first T wf;
+      settled_exact = settled_first T wf;
     }

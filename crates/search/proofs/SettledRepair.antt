@@ -44,10 +44,10 @@ occurs_place T wf n (D, d, k, i, e) =
 -- ---- settled marks
 
 -- a known mark is of one sign or the other
-known-cases : (x : Mark) → is_known x ≡ true → (x ≡ known true) ⊎ (x ≡ known false)
-known-cases unknown e = absurd (false≢true e)
-known-cases (known true) e = inl refl
-known-cases (known false) e = inr refl
+known_cases : (x : Mark) → is_known x ≡ true → (x ≡ known true) ⊎ (x ≡ known false)
+known_cases unknown e = absurd (false≢true e)
+known_cases (known true) e = inl refl
+known_cases (known false) e = inr refl
 
 -- what marks say of each number
 abbrev saying : Marks → ℕ → Bool
@@ -71,7 +71,7 @@ module _ (T : Table) (wf : Wellformed T) (P : List (Literal ℕ)) (consistent : 
       rw (place_step T j h) (⊎_map
       (held_forced (variable_count T) (numbered_clauses T) P reached (pos j))
       (held_forced (variable_count T) (numbered_clauses T) P reached (neg j))
-      (known-cases (mark_at m j) (settled j h))))
+      (known_cases (mark_at m j) (settled j h))))
 
   -- a literal that the marks make true is reached, where one of its variable is
   true_reached : (l : Literal ℕ) (s : Bool) → Reached (record { sign = s; var = l.var }) → Makes (saying m) l → Reached l

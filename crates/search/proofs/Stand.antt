@@ -74,8 +74,8 @@ module _ {e : ℕ} {Model : List ℕ → Type 0} {close : List (Literal ℕ) →
       bit list b = right.mark_sound s.fine s.closed list b.0 b.1 j r.0 (omega arith) r.1
 
   -- where every step is settled, the list of the marks is a model that agrees with P
-  pub settled-member : {P : List (Literal ℕ)} {m : Marks} → Stands e P m → Among Model P (bytes_of e m)
-  settled-member {P} {m} s = (
+  pub settled_member : {P : List (Literal ℕ)} {m : Marks} → Stands e P m → Among Model P (bytes_of e m)
+  settled_member {P} {m} s = (
     right.complete s.fine s.closed s.settled,
     λ l i. let h = s.held l i in get_d_bytes_of e m l.var h.0 ∙ ap bit_of h.1,
   )
@@ -85,4 +85,4 @@ module _ {e : ℕ} {Model : List ℕ → Type 0} {close : List (Literal ℕ) →
   settled_only {P} {m} s list a =
       let size : length list ≡ e = right.model_size list a.0 in
       ext_get_or 0 list (bytes_of e m) (size ∙ sym (length-bytes_of e m))
-      (λ j h. settled_same s (omega arith) list (bytes_of e m) a (settled-member s) j (omega arith))
+      (λ j h. settled_same s (omega arith) list (bytes_of e m) a (settled_member s) j (omega arith))

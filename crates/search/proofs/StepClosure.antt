@@ -64,7 +64,7 @@ module _ (T : Table) (wf : Wellformed T) (P : List (Literal ℕ)) (fine : Fine (
 
   pub settled_right : SettledCount T (step_literals P) (settled_below (length T.steps) (closure_of T P))
   settled_right = (count_same _).0
-      (below.settled-right (variable_count T) (numbered_clauses T) P (numbered_inside T wf) fine.consistent (fine_within T fine) (length T.steps) (steps_fit T))
+      (below.settled_right (variable_count T) (numbered_clauses T) P (numbered_inside T wf) fine.consistent (fine_within T fine) (length T.steps) (steps_fit T))
 
   -- and no other number is that
   pub settled_only : (count : ℕ) → SettledCount T (step_literals P) count → count ≡ settled_below (length T.steps) (closure_of T P)

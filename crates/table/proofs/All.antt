@@ -1,4 +1,4 @@
--- The tests over a whole list, `all`, `any`, `distinct` and `nodesFit`: what they say at an index, and of a list put behind another.
+-- The tests over a whole list, `all`, `any`, `distinct` and `nodes_fit`: what they say at an index, and of a list put behind another.
 use Prim.Native.Nat.{ℕ, zero, suc, ◌+◌, ◌<◌, suc-le-suc}
 use mathlib.Core.Path.{◌≡◌, refl, sym, ap, ap₂, subst, ◌∙◌}
 use mathlib.Core.Logic.{inl, inr}

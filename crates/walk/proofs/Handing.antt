@@ -30,7 +30,7 @@ module _ {table : List ℕ} {net : Net} {targets bases readers : List ℕ} {leve
       → length bytes' ≡ length bytes → Handed table net targets bases readers levels rows' words' bytes'
   handed_with size small long same_bytes = record {
     setting = h.setting;
-    all-levels = h.all-levels;
+    all_levels = h.all_levels;
     rows_size = size;
     small_rows = small;
     words_size = long;

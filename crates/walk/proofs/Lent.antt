@@ -1,6 +1,6 @@
 -- The words that each try of a step is lent. The kept one goes on from a copy of the words of the levels, or from themselves where there is no room for
 -- one; the struck one from these as they were, or from words of 0.
-use Prim.Native.Nat.{ℕ, ◌+◌, ◌-◌, ◌≤◌, ◌<◌}
+use Prim.Native.Nat.{ℕ, ◌-◌, ◌≤◌, ◌<◌}
 use native.Mathlib.Omega.{arith}
 use mathlib.Core.Path.{◌≡◌, refl, sym, ap, subst, ◌∙◌}
 use mathlib.Core.Bool.{Bool, true, false, cond}

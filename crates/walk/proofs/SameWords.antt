@@ -116,8 +116,8 @@ module _ (T : Table) (rows words words' : List ℕ) (agree : (k : ℕ) → k < l
   pub words_rest : (set : ℕ) → RestBut T set (knowledge T (memory rows words)) → RestBut T set (knowledge T (memory rows words'))
   words_rest set r = record {
     kept = λ s h out. kept_rests T _ _ _ _ _ s (r.kept s h out);
-    nodes = λ i h s l out. let was = r.nodes i h s l out in (
-      node_rests T _ _ _ _ _ i (operator_of (node_at T i)) s (λ fam q a b m o t. level_same i fam q a b m h o t) was.0,
+    nodes = λ i h s l out. let K = knowledge T (memory rows words) in let was = r.nodes i h s l out in (
+      node_rests T K.steps K.kept K.nodes K.levels (knowledge T (memory rows words')).levels i (operator_of (node_at T i)) s (λ fam q a b m o t. level_same i fam q a b m h o t) was.0,
       was.1,
     );
   }

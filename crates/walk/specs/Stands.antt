@@ -65,7 +65,7 @@ Resting T M = RestBut T 0 (knowledge T M)
 -- the words have room for those of the levels, and a find for a byte for each step
 pub record Handed (table : List ℕ) (net : Net) (targets bases readers : List ℕ) (levels : ℕ) (rows words bytes : List ℕ) : Type 0 where
   pub setting : Setting table net targets bases readers
-  pub all-levels : levels ≡ level_total (table_of table)
+  pub all_levels : levels ≡ level_total (table_of table)
   pub rows_size : length rows ≡ 130
   pub small_rows : (k : ℕ) → get_or rows k 0 < 2 ^ 32
   pub words_size : level_total (table_of table) ≤ length words

@@ -53,42 +53,6 @@ module _ (table list : List ℕ) (a : Analysis) (e : a ≡ analysis_of Any table
     root_marks : (x : ℕ) → x ≡ set_of 32 (λ t. member w t && not (member a.root t)) → eqb x 0 ≡ root_marked (table_of table) list
     root_marks x g = root_word (table_of table) (packed Any table list a e ok).table list w a.root x starts_are (root_is Any table list a e ok) g
 
--- 12, 16 and 13 are left, and what decides 12
-starts-left : (c : goal.After-intersection-starts)
-    → let a = c.args in
-    (judge_verdict a.table.now a.list.now ≡ last_tests (table_of a.table.now) a.list.now)
-    × (not (eqb c.intersection-starts.result 0) ≡ keeps_initial (table_of a.table.now) a.list.now)
-starts-left c =
-    let A = c.analyse-a in
-    let ok = c.in_default.is in
-    (left _ _ A.result A.ensures ok, keeps _ _ A.result A.ensures ok c.intersection-starts.result c.intersection-starts.ensures)
-
--- 16 and 13 are left, and what decides 16
-reached_left : (c : goal.After-minus)
-    → let a = c.args in
-    judge_verdict a.table.now a.list.now
-    ≡ require UnreachedStep (eqb c.minus.result 0) then require RootFails (root_marked (table_of a.table.now) a.list.now)
-reached_left c =
-    let i = c.before.before.before.before in
-    let a = c.args in
-    let A = c.analyse-a in
-    let ok = c.in_default.is in
-    let r = starts-left i in
-    let some = sym r.1 ∙ ap not (ne_eqb c.intersection-starts.result 0 c.if-starts-eq0.false) in
-    let all = leaves _ _ A.result A.ensures ok c.intersection-starts.result c.intersection-starts.ensures c.reached_states-reached.result c.reached_states-reached.ensures c.minus.result c.minus.ensures in
-    r.0 ∙ then_next _ _ (ap (require NoInitialKept) some) ∙ ap (λ (b : Bool). require UnreachedStep b then require RootFails (root_marked (table_of a.table.now) a.list.now)) (sym all)
-
--- 13 is left, and what decides it
-root-left : (c : goal.After-minus-2)
-    → let a = c.args in
-    judge_verdict a.table.now a.list.now ≡ require RootFails (eqb c.minus-2.result 0)
-root-left c =
-    let A = c.analyse-a in
-    let ok = c.in_default.is in
-    let all = eq-eqb c.minus.result 0 c.if-minus-ne0.false in
-    let marks = root_marks _ _ A.result A.ensures ok c.intersection-starts.result c.intersection-starts.ensures c.minus-2.result c.minus-2.ensures in
-    reached_left c.before.before ∙ then_next _ _ (ap (require UnreachedStep) all) ∙ ap (require RootFails) (sym marks)
-
 pub returns-in-Refused : goal.returns-in-Refused
 returns-in-Refused c =
     let t = c.args.table.now in
@@ -98,7 +62,9 @@ returns-in-Refused c =
 
 pub returns-then-starts-eq0 : goal.returns-then-starts-eq0
 returns-then-starts-eq0 c =
-    let r = starts-left c.before in
+    let r = (let h : let a = c.args in (judge_verdict a.table.now a.list.now ≡ last_tests (table_of a.table.now) a.list.now) × (not (eqb c.intersection-starts.result 0) ≡ keeps_initial (table_of a.table.now) a.list.now) = let A = c.analyse-a in
+    let ok = c.in_default.is in
+    (left _ _ A.result A.ensures ok, keeps _ _ A.result A.ensures ok c.intersection-starts.result c.intersection-starts.ensures) in h) in
     let none = sym r.1 ∙ ap not (eq-eqb c.intersection-starts.result 0 c.if-starts-eq0.true) in
     let refuses = ap (require NoInitialKept) none in
     sym (r.0 ∙ then_refused _ _ NoInitialKept refuses ∙ refuses)
@@ -106,12 +72,46 @@ returns-then-starts-eq0 c =
 pub returns-then-minus-ne0 : goal.returns-then-minus-ne0
 returns-then-minus-ne0 c =
     let refuses = ap (require UnreachedStep) (ne_eqb c.minus.result 0 c.if-minus-ne0.true) in
-    sym (reached_left c.before ∙ then_refused _ _ UnreachedStep refuses ∙ refuses)
+    sym ((let h : let a = c.args in judge_verdict a.table.now a.list.now ≡ require UnreachedStep (eqb c.minus.result 0) then require RootFails (root_marked (table_of a.table.now) a.list.now) = let a = c.args in
+    let A = c.analyse-a in
+    let ok = c.in_default.is in
+    let r = (let h : let a = c.args in (judge_verdict a.table.now a.list.now ≡ last_tests (table_of a.table.now) a.list.now) × (not (eqb c.intersection-starts.result 0) ≡ keeps_initial (table_of a.table.now) a.list.now) = let A = c.analyse-a in
+    let ok = c.in_default.is in
+    (left _ _ A.result A.ensures ok, keeps _ _ A.result A.ensures ok c.intersection-starts.result c.intersection-starts.ensures) in h) in
+    let some = sym r.1 ∙ ap not (ne_eqb c.intersection-starts.result 0 c.if-starts-eq0.false) in
+    let all = leaves _ _ A.result A.ensures ok c.intersection-starts.result c.intersection-starts.ensures c.reached_states-reached.result c.reached_states-reached.ensures c.minus.result c.minus.ensures in
+    r.0 ∙ then_next _ _ (ap (require NoInitialKept) some) ∙ ap (λ (b : Bool). require UnreachedStep b then require RootFails (root_marked (table_of a.table.now) a.list.now)) (sym all) in h) ∙ then_refused _ _ UnreachedStep refuses ∙ refuses)
 
 pub returns-then-minus-ne0-2 : goal.returns-then-minus-ne0-2
-returns-then-minus-ne0-2 c = sym (root-left c.before ∙ ap (require RootFails) (ne_eqb c.minus-2.result 0 c.if-minus-ne0-2.true))
+returns-then-minus-ne0-2 c = sym ((let h : let a = c.args in judge_verdict a.table.now a.list.now ≡ require RootFails (eqb c.minus-2.result 0) = let i = c.before.before.before.before.before.before in
+    let A = c.analyse-a in
+    let ok = c.in_default.is in
+    let all = eq-eqb c.minus.result 0 c.if-minus-ne0.false in
+    let marks = root_marks _ _ A.result A.ensures ok c.intersection-starts.result c.intersection-starts.ensures c.minus-2.result c.minus-2.ensures in
+    (let h : let a = c.args in judge_verdict a.table.now a.list.now ≡ require UnreachedStep (eqb c.minus.result 0) then require RootFails (root_marked (table_of a.table.now) a.list.now) = let a = c.args in
+    let A = c.analyse-a in
+    let ok = c.in_default.is in
+    let r = (let h : let a = c.args in (judge_verdict a.table.now a.list.now ≡ last_tests (table_of a.table.now) a.list.now) × (not (eqb c.intersection-starts.result 0) ≡ keeps_initial (table_of a.table.now) a.list.now) = let A = c.analyse-a in
+    let ok = c.in_default.is in
+    (left _ _ A.result A.ensures ok, keeps _ _ A.result A.ensures ok c.intersection-starts.result c.intersection-starts.ensures) in h) in
+    let some = sym r.1 ∙ ap not (ne_eqb c.intersection-starts.result 0 c.if-starts-eq0.false) in
+    let all = leaves _ _ A.result A.ensures ok c.intersection-starts.result c.intersection-starts.ensures c.reached_states-reached.result c.reached_states-reached.ensures c.minus.result c.minus.ensures in
+    r.0 ∙ then_next _ _ (ap (require NoInitialKept) some) ∙ ap (λ (b : Bool). require UnreachedStep b then require RootFails (root_marked (table_of a.table.now) a.list.now)) (sym all) in h) ∙ then_next _ _ (ap (require UnreachedStep) all) ∙ ap (require RootFails) (sym marks) in h) ∙ ap (require RootFails) (ne_eqb c.minus-2.result 0 c.if-minus-ne0-2.true))
 
 pub returns : goal.returns
 returns c =
     c.in_default.is
-    ∙ sym (root-left c.before ∙ ap (require RootFails) (eq-eqb c.minus-2.result 0 c.if-minus-ne0-2.false))
+    ∙ sym ((let h : let a = c.args in judge_verdict a.table.now a.list.now ≡ require RootFails (eqb c.minus-2.result 0) = let i = c.before.before.before.before.before.before in
+    let A = c.analyse-a in
+    let ok = c.in_default.is in
+    let all = eq-eqb c.minus.result 0 c.if-minus-ne0.false in
+    let marks = root_marks _ _ A.result A.ensures ok c.intersection-starts.result c.intersection-starts.ensures c.minus-2.result c.minus-2.ensures in
+    (let h : let a = c.args in judge_verdict a.table.now a.list.now ≡ require UnreachedStep (eqb c.minus.result 0) then require RootFails (root_marked (table_of a.table.now) a.list.now) = let a = c.args in
+    let A = c.analyse-a in
+    let ok = c.in_default.is in
+    let r = (let h : let a = c.args in (judge_verdict a.table.now a.list.now ≡ last_tests (table_of a.table.now) a.list.now) × (not (eqb c.intersection-starts.result 0) ≡ keeps_initial (table_of a.table.now) a.list.now) = let A = c.analyse-a in
+    let ok = c.in_default.is in
+    (left _ _ A.result A.ensures ok, keeps _ _ A.result A.ensures ok c.intersection-starts.result c.intersection-starts.ensures) in h) in
+    let some = sym r.1 ∙ ap not (ne_eqb c.intersection-starts.result 0 c.if-starts-eq0.false) in
+    let all = leaves _ _ A.result A.ensures ok c.intersection-starts.result c.intersection-starts.ensures c.reached_states-reached.result c.reached_states-reached.ensures c.minus.result c.minus.ensures in
+    r.0 ∙ then_next _ _ (ap (require NoInitialKept) some) ∙ ap (λ (b : Bool). require UnreachedStep b then require RootFails (root_marked (table_of a.table.now) a.list.now)) (sym all) in h) ∙ then_next _ _ (ap (require UnreachedStep) all) ∙ ap (require RootFails) (sym marks) in h) ∙ ap (require RootFails) (eq-eqb c.minus-2.result 0 c.if-minus-ne0-2.false))

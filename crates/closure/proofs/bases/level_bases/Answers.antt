@@ -14,25 +14,6 @@ use Rattle.closure.specs.Knowledge.{level_size, level_sizes, level_base}
 use Rattle.closure.proofs.LevelBases.{node_anywhere, base_on, past, size_most}
 use Rattle.closure.proofs.bases.level_bases.Goals as goal
 
--- what `level_size` gives is the size of node i
-size : (c : goal.After-level_size-total)
-    → c.level_size-total.result
-    ≡ level_size (length (table_of c.args.table.now).states)
-    (operator_of (node_at (table_of c.args.table.now) c.loop-i.i))
-size c =
-    let t = c.args.table.now in
-    let loop = c.loop-i in
-    let x = c.node_at-x.result in
-    let here : x ≡ node_at (table_of t) loop.i =
-    c.node_at-x.ensures ∙ ap (λ (l : List ℕ). node_of (drop (node_width * loop.i) l)) loop.invariant.1 ∙ node_anywhere t loop.i in
-    c.level_size-total.ensures x.a x.b ∙ (λ j. level_size (loop.invariant.0.2 j) (operator_of (here j)))
-
-small : (c : goal.After-level_size-total) → c.level_size-total.result ≤ 62
-small c =
-    let t = c.args.table.now in
-    let loop = c.loop-i in
-    omega (arith, size c, size_most (length (table_of t).states) (omega (arith, loop.invariant.0)) (operator_of (node_at (table_of t) loop.i)))
-
 pub loop-i-init : goal.loop-i-init
 unfolding level_sizes
 loop-i-init c =
@@ -53,7 +34,27 @@ pub level_size-total-requires : goal.level_size-total-requires
 level_size-total-requires c = (c.loop-i.invariant.0.3, c.loop-i.invariant.0.4)
 
 pub overflow_add-total : goal.overflow_add-total
-overflow_add-total c = omega (arith, size c, small c)
+overflow_add-total c = omega (
+  arith,
+  (let h : c.level_size-total.result ≡ level_size (length (table_of c.args.table.now).states) (operator_of (node_at (table_of c.args.table.now) c.loop-i.i)) = let t = c.args.table.now in
+      let loop = c.loop-i in
+      let x = c.node_at-x.result in
+      let here : x ≡ node_at (table_of t) loop.i =
+      c.node_at-x.ensures ∙ ap (λ (l : List ℕ). node_of (drop (node_width * loop.i) l)) loop.invariant.1 ∙ node_anywhere t loop.i in
+      c.level_size-total.ensures x.a x.b ∙ (λ j. level_size (loop.invariant.0.2 j) (operator_of (here j))) in h),
+  (let h : c.level_size-total.result ≤ 62 = let t = c.args.table.now in
+      let loop = c.loop-i in
+      omega (
+        arith,
+        (let h : c.level_size-total.result ≡ level_size (length (table_of c.args.table.now).states) (operator_of (node_at (table_of c.args.table.now) c.loop-i.i)) = let t = c.args.table.now in
+            let loop = c.loop-i in
+            let x = c.node_at-x.result in
+            let here : x ≡ node_at (table_of t) loop.i =
+            c.node_at-x.ensures ∙ ap (λ (l : List ℕ). node_of (drop (node_width * loop.i) l)) loop.invariant.1 ∙ node_anywhere t loop.i in
+            c.level_size-total.ensures x.a x.b ∙ (λ j. level_size (loop.invariant.0.2 j) (operator_of (here j))) in h),
+        size_most (length (table_of t).states) (omega (arith, loop.invariant.0)) (operator_of (node_at (table_of t) loop.i)),
+      ) in h),
+)
 
 pub loop-i-smaller : goal.loop-i-smaller
 loop-i-smaller c = omega arith
@@ -67,10 +68,40 @@ loop-i-preserved c =
     let inside : i < length loop.at = omega (arith, loop.invariant.2) in
     let here : get_or at i 0 ≡ level_base T i = get_or-set_same loop.at i loop.total 0 inside ∙ loop.invariant.3 in
     let before : (k : ℕ) → k < i → get_or at k 0 ≡ level_base T k = λ k h. get_or-set_other loop.at i k loop.total 0 (λ e. omega arith) ∙ loop.invariant.4 k h in (
-      (omega arith, omega (arith, small c), loop.invariant.0.2, loop.invariant.0.3, loop.invariant.0.4),
+      (
+        omega arith,
+        omega (
+          arith,
+          (let h : c.level_size-total.result ≤ 62 = let t = c.args.table.now in
+              let loop = c.loop-i in
+              omega (
+                arith,
+                (let h : c.level_size-total.result ≡ level_size (length (table_of c.args.table.now).states) (operator_of (node_at (table_of c.args.table.now) c.loop-i.i)) = let t = c.args.table.now in
+                    let loop = c.loop-i in
+                    let x = c.node_at-x.result in
+                    let here : x ≡ node_at (table_of t) loop.i =
+                    c.node_at-x.ensures ∙ ap (λ (l : List ℕ). node_of (drop (node_width * loop.i) l)) loop.invariant.1 ∙ node_anywhere t loop.i in
+                    c.level_size-total.ensures x.a x.b ∙ (λ j. level_size (loop.invariant.0.2 j) (operator_of (here j))) in h),
+                size_most (length (table_of t).states) (omega (arith, loop.invariant.0)) (operator_of (node_at (table_of t) loop.i)),
+              ) in h),
+        ),
+        loop.invariant.0.2,
+        loop.invariant.0.3,
+        loop.invariant.0.4,
+      ),
       loop.invariant.1,
       length-set loop.at i _ ∙ loop.invariant.2,
-      omega (arith, size c, loop.invariant.3, base_on T i),
+      omega (
+        arith,
+        (let h : c.level_size-total.result ≡ level_size (length (table_of c.args.table.now).states) (operator_of (node_at (table_of c.args.table.now) c.loop-i.i)) = let t = c.args.table.now in
+            let loop = c.loop-i in
+            let x = c.node_at-x.result in
+            let here : x ≡ node_at (table_of t) loop.i =
+            c.node_at-x.ensures ∙ ap (λ (l : List ℕ). node_of (drop (node_width * loop.i) l)) loop.invariant.1 ∙ node_anywhere t loop.i in
+            c.level_size-total.ensures x.a x.b ∙ (λ j. level_size (loop.invariant.0.2 j) (operator_of (here j))) in h),
+        loop.invariant.3,
+        base_on T i,
+      ),
       below_more _ i before here,
     )
 

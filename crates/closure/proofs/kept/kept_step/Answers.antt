@@ -14,8 +14,8 @@ use Rattle.closure.proofs.kept.kept_step.Goals as goal
 
 -- a row added to the steps out of s
 added_step : (rows : List ℕ) (s : ℕ) {x y : Row} {rows' : List ℕ} {r : Report}
-    → x ≡ y → (r ≡ step_report rows s x) × (rows' ≡ joined rows (step_place s) x) → (w : List ℕ) → stepped rows' w r ≡ add_step s y (memory rows w)
-added_step rows s e did w = (λ i. stepped (did.1 i) w (did.0 i)) ∙ ap (λ (z : Row). add_step s z (memory rows w)) e
+    → x ≡ y → r ≡ step_report rows s x → rows' ≡ joined rows (step_place s) x → (w : List ℕ) → stepped rows' w r ≡ add_step s y (memory rows w)
+added_step rows s e report here w = (λ i. stepped (here i) w (report i)) ∙ ap (λ (z : Row). add_step s z (memory rows w)) e
 
 pub returns : goal.returns
 unfolding kept_step
@@ -24,7 +24,7 @@ returns c =
     let target = get_or a.targets.now a.s 0 in
     let steps = c.row_at-x.ensures in
     λ w. after (add_step a.s (kept_steps a.s target (row_at a.rows.now (step_place a.s)) (row_at a.rows.now kept_place)))
-    (added a.rows.now kept_place (c.kept_row.ensures ∙ ap (kept_row a.s target) steps) c.add-first.ensures w)
+    (added a.rows.now kept_place (c.kept_row.ensures ∙ ap (kept_row a.s target) steps) c.add-first.ensures.value c.add-first.ensures.words_after w)
     (added_step c.add-first.new.words a.s (c.kept_steps.ensures ∙ ap₂ (kept_steps a.s target) steps c.row_at-k.ensures)
-    c.add_step.ensures w)
+    c.add_step.ensures.value c.add_step.ensures.words_after w)
     c.both.ensures

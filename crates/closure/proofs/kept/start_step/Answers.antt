@@ -1,7 +1,6 @@
 -- Two rows are added, each worked out from the rows as they were.
 use mathlib.Core.Path.{◌≡◌, ap, ◌∙◌}
 use mathlib.Core.Bool.{cond}
-use mathlib.Core.Logic.{⊎_elim}
 use lib.Bits.{bit_and}
 use lib.Dec.{eqb}
 use Rattle.rows.specs.declared.row.Row.{Row}
@@ -12,6 +11,7 @@ use Rattle.propagate.specs.Memory.{node_place, kept_place, failing, memory}
 use Rattle.closure.specs.MemoryRules.{start_step}
 use Rattle.propagate.proofs.Chain.{after_add}
 use Rattle.closure.proofs.kept.start_step.Goals as goal
+use Rattle.closure.proofs.kept.start_step.Goals.{then-is_only, else-is_only}
 
 pub returns : goal.returns
 unfolding start_step
@@ -21,10 +21,12 @@ returns c =
     let kept : c.row_at-k.result ≡ row_at rows kept_place = c.row_at-k.ensures in
     let left = open_starts a.initial c.row_at-k.result in
     let test = c.is_only.ensures in
-    let last : c.if-is_only.new ≡ cond (only left) left 0 = ⊎_elim
-    (λ w. w.1 ∙ rw (← test, w.0.taken))
-    (λ w. w.1 ∙ rw (← test, w.0.left))
-    c.if-is_only.branch in
+    let last : c.if-is_only.last ≡ cond (only left) left 0 =
+    elim c.if-is_only.branch as (λ _. c.if-is_only.last ≡ cond (only left) left 0) [
+      | then-is_only w ↦ w.last-is ∙ rw (← test, w.if-is_only.true)
+      | else-is_only w ↦ w.last-is ∙ rw (← test, w.if-is_only.false)
+    ]
+    in
     λ w. after_add (node_place a.root)
     (after_add kept_place
     (ap (λ (r : Row). failing (eqb (open_starts a.initial r) 0) (memory rows w)) kept)
@@ -32,8 +34,8 @@ returns c =
       yes = (last ∙ ap (λ (r : Row). (start_kept a.initial r r).yes) kept) i;
       no = bit_and (c.node_row-x.ensures i).no a.initial;
     })
-    c.add.ensures
+    c.add.ensures.value c.add.ensures.words_after
     c.both-first.ensures)
     (ap (start_root a.initial) kept)
-    c.add_node.ensures
+    c.add_node.ensures.value c.add_node.ensures.rows_after
     c.both.ensures

@@ -14,48 +14,51 @@ use Rattle.rows.specs.Steps.{step_settled}
 use Rattle.closure.proofs.settled.settled_steps.Invariants.{is_settled}
 use Rattle.closure.proofs.settled.settled_steps.Goals as goal
 
--- the step that was read
-read : (c : goal.After-step_at-x)
-    → ReadStep c.args.table.now c.loop-j.j c.step_at-x.result
-read c =
-    let part = c.steps_part-steps in
-    read_step c.args.table.now c.requires.0 c.loop-j.j (omega arith) part.result.now part.ensures c.step_at-x.result c.step_at-x.ensures
-
--- the count with the step
-more : (c : goal.After-is_settled)
-    → let s = c.before.before.before.before.before.before.before.before in
-    let l = c.loop-j in
-    l.count + bool_byte c.is_settled.result ≡ count_of (l.j + 1) (is_settled c.args.table.now c.args.rows.now)
-more c =
-    let l = c.loop-j in
-    let settled : c.is_settled.result ≡ is_settled c.args.table.now c.args.rows.now l.j =
-    c.is_settled.ensures ∙ ap (step_settled c.args.rows.now) (read c.before).here in
-    (λ i. l.invariant.2 i + (flag_byte c.is_settled.result ∙ ap (λ (b : Bool). cond b 1 0) settled) i) ∙ sym (count_of_next l.j (is_settled c.args.table.now c.args.rows.now))
-
--- there are few steps
-few : (c : goal.After-is_settled) → length (table_of c.args.table.now).steps ≤ 128
-few c = (accepted c.args.table.now c.requires.0).table.few_steps
-
 pub loop-j-init : goal.loop-j-init
 unfolding count_of
 loop-j-init c = (zero-le, steps_are c.args.table.now c.counts_of-c.result c.counts_of-c.ensures, refl)
 
 pub is_settled-requires : goal.is_settled-requires
-is_settled-requires c = ((read c).from_below, c.requires.1)
+is_settled-requires c = (
+  (let h : ReadStep c.args.table.now c.loop-j.j c.step_at-x.result = let part = c.steps_part-steps in
+      read_step c.args.table.now c.requires.0 c.loop-j.j (omega arith) part.result.now part.ensures c.step_at-x.result c.step_at-x.ensures in h).from_below,
+  c.requires.1,
+)
 
 pub overflow_add-count : goal.overflow_add-count
 overflow_add-count c =
+    let s = c.before.before.before.before.before.before.before.before in
     let l = c.loop-j in
-    omega (arith, more c, count_of-le (l.j + 1) (is_settled c.args.table.now c.args.rows.now), few c)
+    omega (
+      arith,
+      (let h : let s = c.before.before.before.before.before.before.before.before in let l = c.loop-j in l.count + bool_byte c.is_settled.result ≡ count_of (l.j + 1) (is_settled c.args.table.now c.args.rows.now) = let s = c.before.before.before.before.before.before.before.before in
+          let l = c.loop-j in
+          let settled : c.is_settled.result ≡ is_settled c.args.table.now c.args.rows.now l.j =
+          c.is_settled.ensures ∙ ap (step_settled c.args.rows.now) (let h : ReadStep c.args.table.now c.loop-j.j c.step_at-x.result = let s = c.before.before.before.before.before.before.before in
+          let part = c.steps_part-steps in
+          read_step c.args.table.now c.requires.0 c.loop-j.j (omega arith) part.result.now part.ensures c.step_at-x.result c.step_at-x.ensures in h).here in
+          (λ i. l.invariant.2 i + (flag_byte c.is_settled.result ∙ ap (λ (b : Bool). cond b 1 0) settled) i) ∙ sym (count_of_next l.j (is_settled c.args.table.now c.args.rows.now)) in h),
+      count_of-le (l.j + 1) (is_settled c.args.table.now c.args.rows.now),
+      (let h : length (table_of c.args.table.now).steps ≤ 128 = (accepted c.args.table.now c.requires.0).table.few_steps in h),
+    )
 
 pub overflow_add-j : goal.overflow_add-j
-overflow_add-j c = omega (arith, few c)
+overflow_add-j c = omega (arith, (let h : length (table_of c.args.table.now).steps ≤ 128 = (accepted c.args.table.now c.requires.0).table.few_steps in h))
 
 pub loop-j-smaller : goal.loop-j-smaller
 loop-j-smaller c = omega arith
 
 pub loop-j-preserved : goal.loop-j-preserved
-loop-j-preserved c = (omega arith, c.loop-j.invariant.1, more c)
+loop-j-preserved c = (
+  omega arith,
+  c.loop-j.invariant.1,
+  (let h : let s = c.before.before.before.before.before.before.before.before in let l = c.loop-j in l.count + bool_byte c.is_settled.result ≡ count_of (l.j + 1) (is_settled c.args.table.now c.args.rows.now) = let s = c.before.before.before.before.before.before.before.before in
+      let l = c.loop-j in
+      let settled : c.is_settled.result ≡ is_settled c.args.table.now c.args.rows.now l.j =
+      c.is_settled.ensures ∙ ap (step_settled c.args.rows.now) (let h : ReadStep c.args.table.now c.loop-j.j c.step_at-x.result = let part = c.steps_part-steps in
+      read_step c.args.table.now c.requires.0 c.loop-j.j (omega arith) part.result.now part.ensures c.step_at-x.result c.step_at-x.ensures in h).here in
+      (λ i. l.invariant.2 i + (flag_byte c.is_settled.result ∙ ap (λ (b : Bool). cond b 1 0) settled) i) ∙ sym (count_of_next l.j (is_settled c.args.table.now c.args.rows.now)) in h),
+)
 
 pub returns : goal.returns
 returns c =

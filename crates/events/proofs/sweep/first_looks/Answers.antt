@@ -14,10 +14,10 @@ all_bits k s h l = ap (λ (w : ℕ). member w s) (get_or-replicate {A = ℕ} 33 
 
 pub returns-then-fresh : goal.returns-then-fresh
 returns-then-fresh c = record {
-      result_len = refl;
-      s_value = λ e. all_bits;
-      steps_marked = λ e. absurd (true≢false (sym c.if-fresh.true ∙ e));
-    }
+  result_len = refl;
+  s_value = λ e. all_bits;
+  steps_marked = λ e. absurd (true≢false (sym c.if-fresh.true ∙ e));
+}
 
 pub mark_steps-requires : goal.mark_steps-requires
 mark_steps-requires c = (c.requires, refl)
@@ -26,7 +26,7 @@ pub returns : goal.returns
 returns c =
     let m = c.mark_steps in
     record {
-      result_len = m.auto.1.0;
+      result_len = m.auto.looks;
       s_value = λ e. absurd (true≢false (sym e ∙ c.if-fresh.false));
       steps_marked = λ e. m.ensures.steps_marked;
     }

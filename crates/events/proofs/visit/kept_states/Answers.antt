@@ -1,7 +1,6 @@
 -- `kept_states` meets its contract: K at one state of the set after the other.
 use Prim.Native.Nat.{ℕ, ◌<◌}
-use mathlib.Core.Path.{◌≡◌, refl, sym, subst, ◌∙◌}
-use lib.ListN.{length}
+use mathlib.Core.Path.{refl, sym, subst, ◌∙◌}
 use Rattle.sets.specs.Member.{member, count_of}
 use Rattle.sets.proofs.Walk.{Left, others, left_first, next_below, next_inside, left_next, left_fewer}
 use Rattle.table.specs.Table.{table_of}
@@ -9,38 +8,28 @@ use Rattle.events.proofs.SettingFacts.{wellformed}
 use Rattle.events.proofs.VisitKept.{KeptOn, kept_first, kept_next, kept_last, kept_failed}
 use Rattle.events.proofs.visit.kept_states.Goals as goal
 
--- the next member is a state
-low : (c : goal.After-lowest-s) → c.lowest-s.result < 32
-low c = next_below _ c.loop-left.left _ c.loop-left.invariant.0 c.loop-left-test.true c.lowest-s.ensures
-
--- one state more
-further : (c : goal.After-both-report)
-    → let a = c.args in
-    let step = c.kept_step in
-    (length step.new.rows.1.0 ≡ length a.rows.now)
-    × KeptOn (table_of a.table.now) a.look (others c.loop-left.left c.lowest-s.result) a.rows.now step.new.rows.1.0 c.both-report.result
-further c =
-    let a = c.args in
-    let p = c.requires in
-    let l = c.loop-left in
-    let next = c.lowest-s in
-    let s = next.result in
-    let step = c.kept_step in
-    let h = low c.before.before.before.before.before in (
-      step.auto.1.0 ∙ l.invariant.1,
-      kept_next (table_of a.table.now) a.look (wellformed p.setting) a.targets.now l.left s h (p.setting.targets_at s h)
-          (p.rows_len.1 s (next_inside a.look l.left s l.invariant.0 c.loop-left-test.true next.ensures))
-          a.rows.now l.rows step.new.rows.1.0 l.report step.result c.both-report.result l.invariant.2 step.ensures c.both-report.ensures,
-    )
-
 pub loop-left-init : goal.loop-left-init
 loop-left-init c = (left_first _ c.ranges.look.fits, refl, kept_first _ _ _)
 
 pub kept_step-requires : goal.kept_step-requires
-kept_step-requires c = let p = c.requires in (low c.before, (p.setting.targets_size, c.loop-left.invariant.1 ∙ p.rows_len.0))
+kept_step-requires c =
+    let p = c.requires in
+    let l = c.loop-left in
+    (next_below _ l.left _ l.invariant.0 c.loop-left-test.true c.lowest-s.ensures, (p.setting.targets_size, l.invariant.1 ∙ p.rows_len.0))
 
 pub returns-then-report : goal.returns-then-report
-returns-then-report c = λ w sized. kept_failed _ _ _ _ _ _ c.if-report.true ((further c.before).1 w sized)
+returns-then-report c =
+    let a = c.args in
+    let p = c.requires in
+    let l = c.loop-left in
+    let s = c.lowest-s.result in
+    let step = c.kept_step in
+    let h : s < 32 = next_below _ l.left _ l.invariant.0 c.loop-left-test.true c.lowest-s.ensures in
+    let further : KeptOn (table_of a.table.now) a.look (others l.left s) a.rows.now step.new.rows c.both-report.result =
+    kept_next (table_of a.table.now) a.look (wellformed p.setting) a.targets.now l.left s h (p.setting.targets_at s h)
+    (p.rows_len.1 s (next_inside a.look l.left s l.invariant.0 c.loop-left-test.true c.lowest-s.ensures))
+    a.rows.now l.rows step.new.rows l.report step.result c.both-report.result l.invariant.2 step.ensures c.both-report.ensures in
+    λ w sized. kept_failed _ _ _ _ _ _ c.if-report.true (further w sized)
 
 pub loop-left-smaller : goal.loop-left-smaller
 loop-left-smaller c =
@@ -51,12 +40,19 @@ loop-left-smaller c =
 pub loop-left-preserved : goal.loop-left-preserved
 loop-left-preserved c =
     let a = c.args in
+    let p = c.requires in
     let l = c.loop-left in
     let next = c.lowest-s in
-    let gone = further c.before.before in (
-      subst (Left a.look) (sym c.remove-left.ensures) (left_next a.look l.left next.result l.invariant.0 c.loop-left-test.true next.ensures),
-      gone.0,
-      subst (λ (x : ℕ). KeptOn (table_of a.table.now) a.look x a.rows.now c.kept_step.new.rows.1.0 c.both-report.result) (sym c.remove-left.ensures) gone.1,
+    let s = next.result in
+    let step = c.kept_step in
+    let h : s < 32 = next_below _ l.left _ l.invariant.0 c.loop-left-test.true next.ensures in
+    let further : KeptOn (table_of a.table.now) a.look (others l.left s) a.rows.now step.new.rows c.both-report.result =
+    kept_next (table_of a.table.now) a.look (wellformed p.setting) a.targets.now l.left s h (p.setting.targets_at s h)
+    (p.rows_len.1 s (next_inside a.look l.left s l.invariant.0 c.loop-left-test.true next.ensures))
+    a.rows.now l.rows step.new.rows l.report step.result c.both-report.result l.invariant.2 step.ensures c.both-report.ensures in (
+      subst (Left a.look) (sym c.remove-left.ensures) (left_next a.look l.left s l.invariant.0 c.loop-left-test.true next.ensures),
+      step.auto.rows ∙ l.invariant.1,
+      subst (λ (x : ℕ). KeptOn (table_of a.table.now) a.look x a.rows.now step.new.rows c.both-report.result) (sym c.remove-left.ensures) further,
     )
 
 pub returns : goal.returns

@@ -12,5 +12,5 @@ returns c =
     let is = c.grown_at.ensures ∙ ap (λ (new : Row). grown a.old new) c.node_row.ensures in
     record {
       raised = marked.raised;
-      node_marked = subst (λ (set : ℕ). NodeMarked a.readers.now c.mark_node.new.looks.1.0 a.c set) is marked.node_marked;
+      node_marked = subst (λ (set : ℕ). NodeMarked a.readers.now c.mark_node.new.looks a.c set) is marked.node_marked;
     }

@@ -33,7 +33,7 @@ mark_kept-requires c = let p = c.requires in (p.setting.reads.size, p.rows_len.1
 pub note_node-requires : goal.note_node-requires
 note_node-requires c =
     let p = c.requires in
-    (omega (arith, some_node p.setting, few_nodes p.setting), (p.setting.reads.size, (c.start_step-report.auto.0 ∙ p.rows_len.0, c.mark_kept.ensures.raised.same_length ∙ p.rows_len.1)))
+    (omega (arith, some_node p.setting, few_nodes p.setting), (p.setting.reads.size, (c.start_step-report.auto.rows ∙ p.rows_len.0, c.mark_kept.ensures.raised.same_length ∙ p.rows_len.1)))
 
 pub returns : goal.returns
 returns c =

@@ -10,7 +10,7 @@ use Rattle.table.specs.declared.refusal.Refusal.TheVariants.{ShortBuffer, ListFo
 use Rattle.table.specs.declared.refusal.Verdict.{Verdict}
 use Rattle.table.specs.declared.refusal.Verdict.TheVariants.{Accepted}
 use Rattle.table.specs.Table.{table_of, counts_of}
-use Rattle.table.specs.Accept.{table_verdict, list_verdict}
+use Rattle.table.specs.Accept.{list_verdict}
 use Rattle.table.proofs.Accepted.{states_are, steps_are, nodes_are}
 use Rattle.table.proofs.Bools.{and_parts}
 use Rattle.table.proofs.Verdicts.{require_accepted}
@@ -32,19 +32,6 @@ list_length : (m : ℕ) (list : List ℕ) → list_verdict m list ≡ Accepted �
 unfolding list_verdict
 list_length m list e = eqb-true (length list) m (and_parts _ _ (require_accepted ListForm _ e)).0
 
--- the table passed its tests
-table-passed : (c : goal.In_default) → table_verdict c.args.table.now ≡ Accepted
-table-passed c = sym c.check_table-first.ensures ∙ c.in_default.is
-
--- and the list is of the form
-list-passed : (c : goal.In_default-second)
-    → let s = c.before.before.before.before.before.before.before.before.before in
-    list_verdict (length (table_of c.args.table.now).steps) c.args.list.now ≡ Accepted
-list-passed c =
-    let k = c.counts_of-c in
-    let v = c.check_list-second in
-    sym (list_is c.args.table.now k.result k.ensures c.args.list.now v.result v.ensures) ∙ c.in_default-second.is
-
 pub returns-in-Refused : goal.returns-in-Refused
 returns-in-Refused c =
     let a = c.args in
@@ -63,7 +50,7 @@ returns-in-Refused-second c =
     let v = c.check_list-second in
     let r = c.in-Refused-second.refusal in
     refused_analysis (analysis_verdict a.room t l) r (table_of t) l c.refused-in-Refused-second.result
-    (list_refused a.room t l (table-passed c.before.before.before.before.before.before) r
+    (list_refused a.room t l (sym c.check_table-first.ensures ∙ c.in_default.is) r
     (sym (list_is t k.result k.ensures l v.result v.ensures) ∙ c.in-Refused-second.is)) c.refused-in-Refused-second.ensures
 
 pub returns-then-not-room_fits : goal.returns-then-not-room_fits
@@ -74,7 +61,9 @@ returns-then-not-room_fits c =
     let k = c.counts_of-c in
     let short = sym (room_is t k.result k.ensures a.room c.room_fits.result c.room_fits.ensures) ∙ c.if-not-room_fits.true in
     refused_analysis (analysis_verdict a.room t l) ShortBuffer (table_of t) l c.refused-then-not-room_fits.result
-    (room_refused a.room t l (table-passed c.before.before.before.before.before.before.before) (list-passed c.before.before.before) short) c.refused-then-not-room_fits.ensures
+    (room_refused a.room t l (sym c.check_table-first.ensures ∙ c.in_default.is) (let h : let s = c.before.before.before.before.before.before.before.before.before in list_verdict (length (table_of c.args.table.now).steps) c.args.list.now ≡ Accepted = let k = c.counts_of-c in
+    let v = c.check_list-second in
+    sym (list_is c.args.table.now k.result k.ensures c.args.list.now v.result v.ensures) ∙ c.in_default-second.is in h) short) c.refused-then-not-room_fits.ensures
 
 pub analysed-requires : goal.analysed-requires
 analysed-requires c =
@@ -83,8 +72,10 @@ analysed-requires c =
     let l = a.list.now in
     let k = c.counts_of-c in
     record {
-      table_value = table-passed c.before.before.before.before.before.before;
-      list_len = list_length (length (table_of t).steps) l (list-passed c.before.before);
+      table_value = (sym c.check_table-first.ensures ∙ c.in_default.is);
+      list_len = list_length (length (table_of t).steps) l (let h : let s = c.before.before.before.before.before.before.before.before.before in list_verdict (length (table_of c.args.table.now).steps) c.args.list.now ≡ Accepted = let k = c.counts_of-c in
+          let v = c.check_list-second in
+          sym (list_is c.args.table.now k.result k.ensures c.args.list.now v.result v.ensures) ∙ c.in_default-second.is in h);
       n_value = (states_are t k.result k.ensures, nodes_are t k.result k.ensures);
     }
 
@@ -96,4 +87,6 @@ returns c =
     let k = c.counts_of-c in
     let fits = sym (room_is t k.result k.ensures a.room c.room_fits.result c.room_fits.ensures) ∙ c.if-not-room_fits.false in
     c.analysed.ensures
-    ∙ sym (ap (λ (v : Verdict). analysis_at v (table_of t) l) (room_passed a.room t l (table-passed c.before.before.before.before.before.before.before) (list-passed c.before.before.before) fits))
+    ∙ sym (ap (λ (v : Verdict). analysis_at v (table_of t) l) (room_passed a.room t l (sym c.check_table-first.ensures ∙ c.in_default.is) (let h : let s = c.before.before.before.before.before.before.before.before.before in list_verdict (length (table_of c.args.table.now).steps) c.args.list.now ≡ Accepted = let k = c.counts_of-c in
+    let v = c.check_list-second in
+    sym (list_is c.args.table.now k.result k.ensures c.args.list.now v.result v.ensures) ∙ c.in_default-second.is in h) fits))

@@ -6,4 +6,4 @@ use native.Mathlib.Omega.{arith}
 use Rattle.label.proofs.analysis.root_set.Goals as goal
 
 pub returns-then-f-eq0 : goal.returns-then-f-eq0
-returns-then-f-eq0 c = ap (λ (k : ℕ). get_or c.args.t1 k 0) (omega arith)
+returns-then-f-eq0 c = ap (λ (k : ℕ). get_or c.args.words k 0) (omega arith)

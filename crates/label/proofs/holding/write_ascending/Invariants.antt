@@ -1,7 +1,7 @@
 -- `write_ascending` meets its contract. The loop's invariant: the first i states are written, and the others are those of what is left of the set.
 use Prim.Native.Nat.{◌-◌, ◌^◌, ◌≤◌, ◌<◌}
 use mathlib.Core.Path.{◌≡◌}
-use lib.ListN.{length, drop, set}
+use lib.ListN.{length, drop}
 use Rattle.sets.specs.Member.{member}
 use Rattle.table.specs.Buffer.{over}
 use Rattle.ctl.specs.Levels.{below}

@@ -58,23 +58,20 @@ module _ {set initial first others k : ℕ} {out : List ℕ} (p : Parts set init
       ∙ front_behind (ascending first) (ascending others) out
       ∙ ap (λ (xs : List ℕ). xs ++ drop (length xs) out) (sym p.states)
 
-parts : (c : goal.After-count-k)
-    → let a = c.args in
-    Parts a.set a.initial c.intersection-first.result c.minus-others.result c.count-k.result a.out.now
-parts c =
-    parts_of_lem c.args.set c.args.initial _ _ _ c.args.out.now c.intersection-first.ensures c.minus-others.ensures c.count-k.ensures c.requires
-
 pub write_ascending-requires : goal.write_ascending-requires
-write_ascending-requires c = omega (arith, (parts c.before).fit)
+write_ascending-requires c = omega (arith, (let h : let a = c.args in Parts a.set a.initial c.intersection-first.result c.minus-others.result c.count-k.result a.out.now = parts_of_lem c.args.set c.args.initial _ _ _ c.args.out.now c.intersection-first.ensures c.minus-others.ensures c.count-k.ensures c.requires in h).fit)
 
 pub slice_bounds-write_ascending-count : goal.slice_bounds-write_ascending-count
-slice_bounds-write_ascending-count c = let w = c.write_ascending in first_fits (parts c.before.before.before.before) w.new.out.1.0 w.ensures
+slice_bounds-write_ascending-count c = let w = c.write_ascending in first_fits (let h : let a = c.args in Parts a.set a.initial c.intersection-first.result c.minus-others.result c.count-k.result a.out.now = parts_of_lem c.args.set c.args.initial _ _ _ c.args.out.now c.intersection-first.ensures c.minus-others.ensures c.count-k.ensures c.requires in h) w.new.out w.ensures
+
+pub slice_bounds-write_ascending-start : goal.slice_bounds-write_ascending-start
+slice_bounds-write_ascending-start c = let w = c.write_ascending in first_fits (let h : let a = c.args in Parts a.set a.initial c.intersection-first.result c.minus-others.result c.count-k.result a.out.now = parts_of_lem c.args.set c.args.initial _ _ _ c.args.out.now c.intersection-first.ensures c.minus-others.ensures c.count-k.ensures c.requires in h) w.new.out w.ensures
 
 pub write_ascending-requires-2 : goal.write_ascending-requires-2
-write_ascending-requires-2 c = let w = c.write_ascending in others_fit (parts c.before.before.before.before.before) w.new.out.1.0 w.ensures
+write_ascending-requires-2 c = let w = c.write_ascending in others_fit (let h : let a = c.args in Parts a.set a.initial c.intersection-first.result c.minus-others.result c.count-k.result a.out.now = parts_of_lem c.args.set c.args.initial _ _ _ c.args.out.now c.intersection-first.ensures c.minus-others.ensures c.count-k.ensures c.requires in h) w.new.out w.ensures
 
 pub returns : goal.returns
 returns c =
     let w = c.write_ascending in
     let v = c.write_ascending-2 in
-    whole (parts c.before.before.before.before.before.before.before.before) w.new.out.1.0 w.ensures v.new.out.1.0 v.ensures
+    whole (let h : let a = c.args in Parts a.set a.initial c.intersection-first.result c.minus-others.result c.count-k.result a.out.now = parts_of_lem c.args.set c.args.initial _ _ _ c.args.out.now c.intersection-first.ensures c.minus-others.ensures c.count-k.ensures c.requires in h) w.new.out w.ensures v.new.out v.ensures

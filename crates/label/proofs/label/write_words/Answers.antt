@@ -23,7 +23,7 @@ offset_bounds-out-i c = omega arith
 pub bounds-out-i : goal.bounds-out-i
 bounds-out-i c =
     let a = c.args in
-    omega (arith, ap length c.loop-i.invariant.1, over-length c.loop-i.i a.t1 a.out.now (omega arith) (omega arith))
+    omega (arith, ap length c.loop-i.invariant.1, over-length c.loop-i.i a.words a.out.now (omega arith) (omega arith))
 
 pub loop-i-smaller : goal.loop-i-smaller
 loop-i-smaller c = omega arith
@@ -32,10 +32,10 @@ pub loop-i-preserved : goal.loop-i-preserved
 loop-i-preserved c =
     let a = c.args in
     let i = c.loop-i.i in
-    (omega arith, ap (λ (l : List ℕ). set l i (get_or a.t1 i 0)) c.loop-i.invariant.1 ∙ over_next i a.t1 a.out.now 0 (omega arith) (omega arith))
+    (omega arith, ap (λ (l : List ℕ). set l i (get_or a.words i 0)) c.loop-i.invariant.1 ∙ over_next i a.words a.out.now 0 (omega arith) (omega arith))
 
 pub returns : goal.returns
 returns c =
     let a = c.args in
     let done : c.loop-i.i ≡ a.k = omega arith in
-    c.loop-i.invariant.1 ∙ ap (λ (k : ℕ). over k a.t1 a.out.now) done
+    c.loop-i.invariant.1 ∙ ap (λ (k : ℕ). over k a.words a.out.now) done

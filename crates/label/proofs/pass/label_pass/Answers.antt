@@ -77,11 +77,11 @@ loop-i-preserved c =
     let h : i < (counts_of l).nodes = omega (arith, ap (λ (y : Counts). y.nodes) k) in
     let x = c.node_at.result in
     let here : x ≡ node_of (drop (node_width * i) (nodes_part l)) = c.node_at.ensures ∙ ap (λ (s : List ℕ). node_of (drop (node_width * i) s)) c.nodes_part-nodes.ensures in
-    let w : c.node_states.result ≡ node_word a.t3 a.kept (length (table_of l).states) (states_part l) words (operator_of x) =
-    c.node_states.ensures ∙ (λ j. node_word a.t3 a.kept (q.0 j) (c.states_part-states.ensures j) words (operator_of x)) in (
+    let w : c.node_states.result ≡ node_word a.rows a.kept (length (table_of l).states) (states_part l) words (operator_of x) =
+    c.node_states.ensures ∙ (λ j. node_word a.rows a.kept (q.0 j) (c.states_part-states.ensures j) words (operator_of x)) in (
       omega arith,
       length-set words i c.node_states.result ∙ c.loop-i.invariant.1,
-      c.loop-i.invariant.2 ∙ one l a.t3 a.kept (length (table_of l).states) i h x here words c.node_states.result w,
+      c.loop-i.invariant.2 ∙ one l a.rows a.kept (length (table_of l).states) i h x here words c.node_states.result w,
     )
 
 pub returns : goal.returns
@@ -91,4 +91,4 @@ returns c =
     let l = a.table.now in
     let i = c.loop-i.i in
     let done = records_done node_of node_width (counts_of l).nodes (nodes_part l) i (omega (arith, ap (λ (y : Counts). y.nodes) c.counts_of-c.ensures)) in
-    sym (c.loop-i.invariant.2 ∙ ap (λ (xs : List Node). pass_words a.t3 a.kept (length (table_of l).states) (states_part l) i xs c.loop-i.next) done)
+    sym (c.loop-i.invariant.2 ∙ ap (λ (xs : List Node). pass_words a.rows a.kept (length (table_of l).states) (states_part l) i xs c.loop-i.next) done)

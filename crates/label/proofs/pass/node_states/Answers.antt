@@ -4,18 +4,10 @@ use native.Mathlib.Omega.{arith}
 use mathlib.Core.Path.{sym, ap, ◌∙◌}
 use lib.Bits.{bit_and, bit_or}
 use lib.ListN.{get_or}
-use Rattle.ctl.specs.Rule.{Quantifier, Operator}
+use Rattle.ctl.specs.Rule.{Quantifier}
 use Rattle.ctl.proofs.OfKind.{of_kind, past_kinds, from_six, second_b, second_below, next_kind, fixpoint_kind}
 use Rattle.label.specs.Words.{next_word, levels_word, node_word}
 use Rattle.label.proofs.pass.node_states.Goals as goal
-
--- the set of a node with an operator
-abbrev word_of : goal.Start → Operator → ℕ
-word_of s = node_word s.args.rows.now s.args.kept s.args.n s.args.states.now s.args.words.now
-
--- the set of a node before it
-abbrev word_at : goal.Start → ℕ → ℕ
-word_at s i = get_or s.args.words.now i 0
 
 pub offset_bounds-words-right : goal.offset_bounds-words-right
 offset_bounds-words-right c =
@@ -27,59 +19,53 @@ bounds-words-right c =
 
 pub returns-in-1 : goal.returns-in-1
 unfolding node_word
-returns-in-1 c = let start = c.before.before.before.before.before in sym (ap (word_of start) (of_kind c.args.x 1 c.in-1.keys1))
+returns-in-1 c = sym (ap (node_word c.args.rows.now c.args.kept c.args.n c.args.states.now c.args.words.now) (of_kind c.args.x 1 c.in-1.is))
 
 pub returns-in-2 : goal.returns-in-2
 unfolding node_word
 returns-in-2 c =
-    let start = c.before.before.before.before.before.before in
-    ap (bit_and c.args.kept) c.labelled_states.ensures ∙ sym (ap (word_of start) (of_kind c.args.x 2 c.in-2.keys2))
+    ap (bit_and c.args.kept) c.labelled_states.ensures ∙ sym (ap (node_word c.args.rows.now c.args.kept c.args.n c.args.states.now c.args.words.now) (of_kind c.args.x 2 c.in-2.is))
 
 pub returns-in-3 : goal.returns-in-3
 unfolding node_word
-returns-in-3 c = let start = c.before.before.before.before.before in sym (ap (word_of start) (of_kind c.args.x 3 c.in-3.keys3))
+returns-in-3 c = sym (ap (node_word c.args.rows.now c.args.kept c.args.n c.args.states.now c.args.words.now) (of_kind c.args.x 3 c.in-3.is))
 
 pub returns-in-4 : goal.returns-in-4
 unfolding node_word
 returns-in-4 c =
-    let start = c.before.before.before.before.before in
     let x = c.args.x in
-    ap (λ (i : ℕ). bit_and (word_at start x.a) (word_at start i)) (c.second_child-right.ensures ∙ second_b x (omega (arith, c.in-4.keys4)))
-    ∙ sym (ap (word_of start) (of_kind x 4 c.in-4.keys4))
+    ap (λ (i : ℕ). bit_and ((let h : ℕ → ℕ = λ i. get_or c.args.words.now i 0 in h) x.a) ((let h : ℕ → ℕ = λ i. get_or c.args.words.now i 0 in h) i)) (c.second_child-right.ensures ∙ second_b x (omega (arith, c.in-4.is)))
+    ∙ sym (ap (node_word c.args.rows.now c.args.kept c.args.n c.args.states.now c.args.words.now) (of_kind x 4 c.in-4.is))
 
 pub returns-in-5 : goal.returns-in-5
 unfolding node_word
 returns-in-5 c =
-    let start = c.before.before.before.before.before in
     let x = c.args.x in
-    ap (λ (i : ℕ). bit_or (word_at start x.a) (word_at start i)) (c.second_child-right.ensures ∙ second_b x (omega (arith, c.in-5.keys5)))
-    ∙ sym (ap (word_of start) (of_kind x 5 c.in-5.keys5))
+    ap (λ (i : ℕ). bit_or ((let h : ℕ → ℕ = λ i. get_or c.args.words.now i 0 in h) x.a) ((let h : ℕ → ℕ = λ i. get_or c.args.words.now i 0 in h) i)) (c.second_child-right.ensures ∙ second_b x (omega (arith, c.in-5.is)))
+    ∙ sym (ap (node_word c.args.rows.now c.args.kept c.args.n c.args.states.now c.args.words.now) (of_kind x 5 c.in-5.is))
 
 pub returns-in-6 : goal.returns-in-6
 unfolding node_word
 returns-in-6 c =
-    let start = c.before.before.before.before.before.before.before.before.before in
-    let r = c.in_default-1.rest in
     c.next_states.ensures
-    ∙ ap (λ (q : Quantifier). next_word q c.args.rows.now c.args.n (word_at start c.args.x.a)) c.quantifier_of.ensures
-    ∙ sym (ap (word_of start) (next_kind c.args.x (from_six c.args.x.kind (omega arith) r.0.0.0.0.1 r.0.0.0.1 r.0.0.1 r.0.1 r.1) (omega arith)))
+    ∙ ap (λ (q : Quantifier). next_word q c.args.rows.now c.args.n ((let h : ℕ → ℕ = λ i. get_or c.args.words.now i 0 in h) c.args.x.a)) c.quantifier_of.ensures
+    ∙ sym (ap (node_word c.args.rows.now c.args.kept c.args.n c.args.states.now c.args.words.now) (next_kind c.args.x (from_six c.args.x.kind (omega arith) (omega arith) (omega arith) (omega arith) (omega arith) (omega arith)) (omega arith)))
 
 pub returns-in-8 : goal.returns-in-8
 unfolding node_word
 returns-in-8 c =
-    let start = c.before.before.before.before.before.before.before.before.before.before.before in
     let a = c.args in
     let second = c.second_child-right in
     let family = c.family_of in
     let quantifier = c.quantifier_of-in-8 in
     c.fixpoint_states.ensures
-    ∙ (λ i. levels_word (family.ensures i) (quantifier.ensures i) a.rows.now a.n (word_at start a.x.a) (word_at start (second.ensures i)) a.n)
-    ∙ sym (ap (word_of start) (fixpoint_kind a.x (omega arith) (omega arith)))
+    ∙ (λ i. levels_word (family.ensures i) (quantifier.ensures i) a.rows.now a.n ((let h : ℕ → ℕ = λ i. get_or c.args.words.now i 0 in h) a.x.a) ((let h : ℕ → ℕ = λ i. get_or c.args.words.now i 0 in h) (second.ensures i)) a.n)
+    ∙ sym (ap (node_word c.args.rows.now c.args.kept c.args.n c.args.states.now c.args.words.now) (fixpoint_kind a.x (omega arith) (omega arith)))
 
 pub returns-in_default : goal.returns-in_default
 unfolding node_word
-returns-in_default c = let start = c.before.before.before.before.before.before in sym (ap (word_of start) (of_kind c.args.x 0 (omega arith)))
+returns-in_default c = sym (ap (node_word c.args.rows.now c.args.kept c.args.n c.args.states.now c.args.words.now) (of_kind c.args.x 0 (omega arith)))
 
 pub returns-in_default-2 : goal.returns-in_default-2
 unfolding node_word
-returns-in_default-2 c = let start = c.before.before.before.before.before.before.before.before in sym (ap (word_of start) (past_kinds c.args.x (omega arith)))
+returns-in_default-2 c = sym (ap (node_word c.args.rows.now c.args.kept c.args.n c.args.states.now c.args.words.now) (past_kinds c.args.x (omega arith)))

@@ -36,7 +36,7 @@ bounds-rows-s c = omega arith
 pub returns-then-minus-ne0 : goal.returns-then-minus-ne0
 unfolding passes
 returns-then-minus-ne0 c =
-    let rows = c.args.t1 in
+    let rows = c.args.rows in
     let kept = c.args.kept in
     let s = c.loop-s.s in
     let fails : passes rows kept s ≡ false = ap (λ (k : ℕ). eqb k 0) (sym c.minus.ensures) ∙ ne_eqb c.minus.result 0 c.if-minus-ne0.true in
@@ -48,7 +48,7 @@ loop-s-smaller c = omega arith
 pub loop-s-preserved : goal.loop-s-preserved
 unfolding passes
 loop-s-preserved c =
-    let rows = c.args.t1 in
+    let rows = c.args.rows in
     let kept = c.args.kept in
     let s = c.loop-s.s in
     let fits : passes rows kept s ≡ true = ap (λ (k : ℕ). eqb k 0) (sym c.minus.ensures) ∙ eq-eqb c.minus.result 0 c.if-minus-ne0.false in
@@ -57,7 +57,7 @@ loop-s-preserved c =
 pub returns : goal.returns
 unfolding passes all
 returns c =
-    let rows = c.args.t1 in
+    let rows = c.args.rows in
     let kept = c.args.kept in
     let s = c.loop-s.s in
     let h : length (tabulate 32 (λ s. s)) ≤ s = rw (length_tabulate {A = ℕ} 32 (λ s. s)) c.loop-s-test.false in

@@ -12,8 +12,8 @@ use Rattle.label.proofs.rows.is_total.Given as goal
 abbrev pub invariant-loop-s : goal.invariant-loop-s
 invariant-loop-s l =
     (l.s ≤ 32)
-    × (all (λ l.s. eqb (set_of 32 (λ t. member (get_or l.rows l.s 0) t && not (member l.kept t))) 0) (tabulate 32 (λ l.s. l.s))
-    ≡ all (λ l.s. eqb (set_of 32 (λ t. member (get_or l.rows l.s 0) t && not (member l.kept t))) 0) (drop l.s (tabulate 32 (λ l.s. l.s))))
+    × (all (λ s. eqb (set_of 32 (λ t. member (get_or l.rows s 0) t && not (member l.kept t))) 0) (tabulate 32 (λ s. s))
+    ≡ all (λ s. eqb (set_of 32 (λ t. member (get_or l.rows s 0) t && not (member l.kept t))) 0) (drop l.s (tabulate 32 (λ s. s))))
 
 abbrev pub decreases-loop-s : goal.decreases-loop-s
 decreases-loop-s l = 32 - l.s

@@ -2,7 +2,6 @@
 use Prim.Native.Nat.{ℕ, ◌+◌, ◌<◌, zero-le}
 use mathlib.Core.Path.{◌≡◌, ap, subst, ◌∙◌}
 use mathlib.Core.List.{List, ◌++◌}
-use mathlib.Core.Logic.{⊎_elim}
 use native.Mathlib.Numerals.{add-one}
 use native.Mathlib.Omega.{arith}
 use lib.ListN.{length, get_or, take}
@@ -15,6 +14,7 @@ use Rattle.table.proofs.Rows.{rows_none}
 use Rattle.ctl.specs.Labels.{kept_steps}
 use Rattle.label.proofs.KeptSteps.{if_kept, kept_more, with_kept, with_struck}
 use Rattle.label.proofs.rows.kept_rows.Goals as goal
+use Rattle.label.proofs.rows.kept_rows.Goals.{then-list-j-eq1, else-list-j-eq1}
 
 pub loop-j-init : goal.loop-j-init
 unfolding kept_steps
@@ -64,12 +64,13 @@ loop-j-preserved c =
     let more : kept_steps (take (j + 1) xs) (take (j + 1) l) ≡ before ++ if_kept (get_or l j 0) (step_at (table_of a.table.now) j) =
     ap (λ (k : ℕ). kept_steps (take k xs) (take k l)) (add-one j) ∙ kept_more xs l j zero_step c.requires.list_len inside in
     let row_of : Rows c.if-list-j-eq1.rows (before ++ if_kept (get_or l j 0) (step_at (table_of a.table.now) j)) =
-    ⊎_elim
-    (λ w. with_kept rows c.if-list-j-eq1.rows before c.loop-j.invariant.1 a.table.now j (get_or l j 0) w.2.result w.1.result
-    (read_step a.table.now c.requires.table_value j (omega arith) c.steps_part-steps.result.now c.steps_part-steps.ensures w.1.result w.1.ensures)
-    w.0.taken w.2.ensures w.3)
-    (λ w. with_struck rows c.if-list-j-eq1.rows before c.loop-j.invariant.1 (get_or l j 0) (step_at (table_of a.table.now) j) w.0.left w.1)
-    c.if-list-j-eq1.branch in
+    elim c.if-list-j-eq1.branch as (λ _. Rows c.if-list-j-eq1.rows (before ++ if_kept (get_or l j 0) (step_at (table_of a.table.now) j))) [
+      | then-list-j-eq1 w ↦ with_kept rows c.if-list-j-eq1.rows before c.loop-j.invariant.1 a.table.now j (get_or l j 0) w.insert.result w.step_at-x.result
+          (read_step a.table.now c.requires.table_value j (omega arith) c.steps_part-steps.result.now c.steps_part-steps.ensures w.step_at-x.result w.step_at-x.ensures)
+          w.if-list-j-eq1.true w.insert.ensures w.rows-is
+      | else-list-j-eq1 w ↦ with_struck rows c.if-list-j-eq1.rows before c.loop-j.invariant.1 (get_or l j 0) (step_at (table_of a.table.now) j) w.if-list-j-eq1.false w.rows-is
+    ]
+    in
     (omega arith, rw more row_of)
 
 pub returns : goal.returns

@@ -24,7 +24,7 @@ loop-s-smaller c = omega arith
 
 pub loop-s-preserved : goal.loop-s-preserved
 loop-s-preserved c =
-    (omega arith, c.insert_if-kept.ensures ∙ collect c.loop-s.s (λ t. not (eqb (get_or c.args.t1 t 0) 0)) c.loop-s.auto (not (eqb (get_or c.args.t1 c.loop-s.s 0) 0)) (omega arith) c.loop-s.invariant.1 refl)
+    (omega arith, c.insert_if-kept.ensures ∙ collect c.loop-s.s (λ t. not (eqb (get_or c.args.rows t 0) 0)) c.loop-s.kept (not (eqb (get_or c.args.rows c.loop-s.s 0) 0)) (omega arith) c.loop-s.invariant.1 refl)
 
 pub returns : goal.returns
-returns c = c.loop-s.invariant.1 ∙ ap (λ (k : ℕ). set_of k (λ t. not (eqb (get_or c.args.t1 t 0) 0))) (omega arith)
+returns c = c.loop-s.invariant.1 ∙ ap (λ (k : ℕ). set_of k (λ t. not (eqb (get_or c.args.rows t 0) 0))) (omega arith)

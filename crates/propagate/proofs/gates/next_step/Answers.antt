@@ -39,17 +39,17 @@ returns-then-is_none c =
     let more : w.result ≡ new_of (masked a.look (row_at last (node_place a.i))) N = w.ensures ∙ (λ j. new_of ((m.ensures ∙ ap (masked a.look) g.ensures) j) (up j)) in
     let none : is_none (new_of (masked a.look (row_at last (node_place a.i))) N) ≡ true = ap is_none (sym more) ∙ sym z.ensures ∙ c.if-is_none.true in
     λ w. after (λ M. go_back_more T a.n a.every (new_of (masked a.look (node_row M a.i)) N) (row_at rows (node_place a.a)) (add_row (node_place a.a)) M)
-    (added rows (node_place a.i) up d.ensures w)
+    (added rows (node_place a.i) up d.ensures.value d.ensures.rows_after w)
     (simp none)
     (quiet_after d.result)
 
 pub go_back-k-requires : goal.go_back-k-requires
-go_back-k-requires c = let p = c.requires in (p.n_bound.0, (p.n_bound.1, c.add_node-first.auto.0 ∙ p.i_bound.1.1))
+go_back-k-requires c = let p = c.requires in (p.n_bound.0, (p.n_bound.1, c.add_node-first.auto.rows ∙ p.i_bound.1.1))
 
 pub add_node-requires : goal.add_node-requires
 add_node-requires c =
     let p = c.requires in
-    omega (arith, p.i_bound.1.0, p.i_bound.1.1, c.go_back-k.auto.1.0, c.add_node-first.auto.0)
+    omega (arith, p.i_bound.1.0, p.i_bound.1.1, c.go_back-k.auto.rows, c.add_node-first.auto.rows)
 
 pub returns : goal.returns
 returns c =
@@ -77,10 +77,10 @@ returns c =
     let some : is_none (new_of (masked a.look (row_at last (node_place a.i))) N) ≡ false = ap is_none (sym more) ∙ sym z.ensures ∙ c.if-is_none.false in
     let A : v.result ≡ turned a.every (new_of (masked a.look (row_at last (node_place a.i))) N) = v.ensures ∙ ap (turned a.every) more in
     λ w. after (λ M. go_back_more T a.n a.every (new_of (masked a.look (node_row M a.i)) N) (row_at rows (node_place a.a)) (add_row (node_place a.a)) M)
-    (added rows (node_place a.i) up d.ensures w)
+    (added rows (node_place a.i) up d.ensures.value d.ensures.rows_after w)
     (simp some (after_add (node_place a.a)
     (λ i. stepped ((k.ensures.rows_after ∙ (λ j. back_rows T (A j) (end j) last a.n)) i) w ((k.ensures.report_value ∙ (λ j. back_report T (A j) (end j) last a.n)) i))
     (y.ensures ∙ ap (turned a.every) (k.ensures.end_value ∙ (λ j. back_row T (A j) (end j) last a.n)))
-    f.ensures
+    f.ensures.value f.ensures.rows_after
     c.both.ensures))
     c.both-2.ensures

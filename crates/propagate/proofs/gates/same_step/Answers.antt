@@ -10,6 +10,6 @@ returns c =
     let a = c.args in
     let t = turned a.same in
     λ w. after (λ (M : Memory). add_row (node_place a.a) (t (node_row M a.i)) M)
-    (added a.rows.now (node_place a.i) (c.turn.ensures ∙ ap t c.node_row-x.ensures) c.add_node-first.ensures w)
-    (added c.add_node-first.new.rows (node_place a.a) (c.turn-2.ensures ∙ ap t c.node_row-g.ensures) c.add_node.ensures w)
+    (added a.rows.now (node_place a.i) (c.turn.ensures ∙ ap t c.node_row-x.ensures) c.add_node-first.ensures.value c.add_node-first.ensures.rows_after w)
+    (added c.add_node-first.new.rows (node_place a.a) (c.turn-2.ensures ∙ ap t c.node_row-g.ensures) c.add_node.ensures.value c.add_node.ensures.rows_after w)
     c.both.ensures

@@ -18,7 +18,7 @@ returns c =
     (after {S = failing a.j.fails (memory a.rows.now a.words.now)} (add_level a.n a.x (suc a.m) a.j.level) refl
     (l.ensures ∙ ap (λ (k : ℕ). add_level a.n a.x k a.j.level (memory a.rows.now a.words.now)) (add-one a.m))
     c.both-first.ensures)
-    (added l.new.rows (node_place a.x.a) refl d.ensures l.new.words)
+    (added l.new.rows (node_place a.x.a) refl d.ensures.value d.ensures.rows_after l.new.words)
     c.both-second.ensures)
-    (added d.new.rows (node_place a.x.b) refl e.ensures l.new.words)
+    (added d.new.rows (node_place a.x.b) refl e.ensures.value e.ensures.rows_after l.new.words)
     c.both.ensures

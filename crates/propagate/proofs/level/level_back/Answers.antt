@@ -16,7 +16,7 @@ pub add_level-requires : goal.add_level-requires
 add_level-requires c =
     let p = c.requires in
     let k = c.go_back-k in
-    (fits_on _ _ k.new.rows.1.0 _ p.fits k.auto.1.0 refl, omega (arith, p.m_lt_n.0))
+    record { fits = fits_on _ _ k.new.rows _ p.fits k.auto.rows refl; m_le_n = omega (arith, p.m_lt_n.0) }
 
 pub returns : goal.returns
 returns c =
@@ -36,6 +36,6 @@ returns c =
       memory = memory ((k.ensures.rows_after ∙ (λ j. back_rows T (t.ensures j) (u.ensures j) rows a.n)) i) a.words.now;
       report = (k.ensures.report_value ∙ (λ j. back_report T (t.ensures j) (u.ensures j) rows a.n)) i;
     })
-    (l.ensures ∙ ap (λ (r : Row). add_level a.n a.x a.m r (memory k.new.rows.1.0 a.words.now))
+    (l.ensures ∙ ap (λ (r : Row). add_level a.n a.x a.m r (memory k.new.rows a.words.now))
     (v.ensures ∙ ap (turned e) (k.ensures.end_value ∙ (λ j. back_row T (t.ensures j) (u.ensures j) rows a.n))))
     c.both.ensures)

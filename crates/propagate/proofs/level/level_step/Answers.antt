@@ -8,13 +8,13 @@ use Rattle.propagate.proofs.Chain.{after, fits_on}
 use Rattle.propagate.proofs.level.level_step.Goals as goal
 
 pub add_joined-first-requires : goal.add_joined-first-requires
-add_joined-first-requires c = let p = c.requires in (p.fits, (p.m_lt_n.0, p.m_lt_n.1.0))
+add_joined-first-requires c = let p = c.requires in record { fits = p.fits; m_lt_n = (p.m_lt_n.0, p.m_lt_n.1.0) }
 
 pub level_back-requires : goal.level_back-requires
 level_back-requires c =
     let p = c.requires in
     let d = c.add_joined-first in
-    (fits_on _ _ d.new.rows d.new.words p.fits d.auto.0 d.auto.1.0, p.m_lt_n)
+    record { fits = fits_on _ _ d.new.rows d.new.words p.fits d.auto.rows d.auto.words; m_lt_n = p.m_lt_n }
 
 pub returns : goal.returns
 unfolding level_step

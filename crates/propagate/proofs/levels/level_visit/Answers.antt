@@ -1,7 +1,6 @@
 -- `level_visit` meets its contract: a level like the one seen last is passed over, any other is looked at.
 use Prim.Native.Nat.{ℕ, suc}
 use mathlib.Core.Path.{◌≡◌, sym, ap, ◌∙◌}
-use mathlib.Core.Logic.{⊎_elim}
 use native.Mathlib.Numerals.{add-one}
 use Rattle.propagate.specs.declared.levels.Seen.{Seen}
 use Rattle.rows.specs.Words.{quiet}
@@ -9,6 +8,7 @@ use Rattle.propagate.specs.Memory.{Stepped, Visit, memory}
 use Rattle.propagate.specs.Level.{level_at, alike, look_after}
 use Rattle.propagate.proofs.Visits.{look_all, look_on, visit_alike, visit_other}
 use Rattle.propagate.proofs.levels.level_visit.Goals as goal
+use Rattle.propagate.proofs.levels.level_visit.Goals.{then-report, else-report}
 
 pub returns-then-is_alike : goal.returns-then-is_alike
 returns-then-is_alike c =
@@ -20,7 +20,7 @@ returns-then-is_alike c =
     let like : c.is_alike.result ≡ alike a.seen (level_at a.n a.x (suc a.m) M) (level_at a.n a.x a.m M) =
     c.is_alike.ensures ∙ (λ i. alike a.seen (above i) (b.ensures i)) in
     let e = visit_alike a.targets.now a.n a.x a.m a.seen M (sym like ∙ c.if-is_alike.true) in
-    (sym (ap (λ (v : Visit Seen). v.done) e), sym (ap (λ (v : Visit Seen). v.left) e))
+    record { report_after = sym (ap (λ (v : Visit Seen). v.done) e); seen_value = sym (ap (λ (v : Visit Seen). v.left) e) }
 
 pub returns : goal.returns
 returns c =
@@ -33,15 +33,18 @@ returns c =
     c.is_alike.ensures ∙ (λ i. alike a.seen (above i) (b.ensures i)) in
     let s = c.level_step-report in
     let k = c.if-report.look in
-    let look : k ≡ look_after a.n s.result a.seen.look =
-    ⊎_elim (λ w. look_all a.n s.result a.seen.look k w.0.taken (w.2 ∙ w.1.ensures)) (λ w. look_on a.n s.result a.seen.look k w.0.left w.1) c.if-report.branch in
-    let e = visit_other a.targets.now a.n a.x a.m a.seen M (sym like ∙ c.if-is_alike.false) in (
-      s.ensures ∙ sym (ap (λ (v : Visit Seen). v.done) e),
-      (λ i. record {
+    let look : k ≡ look_after a.n s.result a.seen.look = elim c.if-report.branch as (λ _. k ≡ look_after a.n s.result a.seen.look) [
+      | then-report w ↦ look_all a.n s.result a.seen.look k w.if-report.true (w.look-is ∙ w.below-look.ensures)
+      | else-report w ↦ look_on a.n s.result a.seen.look k w.if-report.false w.look-is
+    ] in
+    let e = visit_other a.targets.now a.n a.x a.m a.seen M (sym like ∙ c.if-is_alike.false) in
+    record {
+      report_after = s.ensures ∙ sym (ap (λ (v : Visit Seen). v.done) e);
+      seen_value = (λ i. record {
         look = (look ∙ ap (λ (z : Stepped). look_after a.n z.report a.seen.look) s.ensures) i;
         quiet = (c.is_quiet.ensures ∙ ap (λ (z : Stepped). quiet z.report) s.ensures) i;
         level = above i;
         below = b.ensures i;
       })
-          ∙ sym (ap (λ (v : Visit Seen). v.left) e),
-    )
+          ∙ sym (ap (λ (v : Visit Seen). v.left) e);
+    }

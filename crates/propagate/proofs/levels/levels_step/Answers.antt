@@ -1,43 +1,30 @@
 -- `levels_step` meets its contract: the first k of the levels, one after the other, in their order.
 use Prim.Native.Nat.{ℕ, suc, ◌+◌, ◌-◌, zero-le}
 use mathlib.Core.Path.{◌≡◌, refl, sym, ap, ◌∙◌}
-use mathlib.Core.Bool.{true, false}
-use mathlib.Core.Logic.{⊎_elim}
+use mathlib.Core.Bool.{Bool, false}
+use mathlib.Core.List.{List}
 use native.Mathlib.Numerals.{add-one}
 use native.Mathlib.Omega.{arith}
-use lib.ListN.{length}
+use Rattle.rows.specs.declared.row.Report.{Report}
+use Rattle.rows.specs.Words.{both_reports}
+use Rattle.propagate.specs.declared.level.Fixpoint.{Fixpoint}
 use Rattle.propagate.specs.declared.levels.Seen.{Seen}
 use Rattle.propagate.specs.Memory.{Memory, Stepped, Visit, memory, stepped, each_with, ordered}
 use Rattle.propagate.specs.Level.{nothing_seen, level_visit, levels_from}
 use Rattle.propagate.proofs.Chain.{each_failed, after_visit, fits_on}
 use Rattle.propagate.proofs.Ordered.{going_down, going_up, ordered-below}
 use Rattle.propagate.proofs.levels.levels_step.Goals as goal
+use Rattle.propagate.proofs.levels.levels_step.Goals.{then-down, else-down}
 
 -- one level more
-further : (c : goal.After-both-report)
-    → let a = c.args in
-    let l = c.loop-k in
-    let s = c.level_visit-v in
-    let f : ℕ → Seen → Memory → Visit Seen = λ k. level_visit a.targets.now a.n a.x (ordered a.down a.n k) in
-    let M = memory a.rows.now a.words.now in
-    (length s.new.words ≡ length a.rows.now)
-    × (length s.new.words.1.0 ≡ length a.words.now)
-    × (stepped s.new.words s.new.words.1.0 c.both-report.result ≡ (each_with f (suc l.k) (nothing_seen a.look) M).done)
-    × (s.result.seen ≡ (each_with f (suc l.k) (nothing_seen a.look) M).left)
-further c =
-    let a = c.args in
-    let l = c.loop-k in
-    let m = c.if-down.m in
-    let o : m ≡ ordered a.down a.n l.k =
-    ⊎_elim (λ w. going_down a.down a.n l.k m w.0.taken w.1) (λ w. going_up a.down a.n l.k m w.0.left w.1) c.if-down.branch in
-    let s = c.level_visit-v in
-    let M = memory a.rows.now a.words.now in
-    let f : ℕ → Seen → Memory → Visit Seen = λ k. level_visit a.targets.now a.n a.x (ordered a.down a.n k) in
-    let here : level_visit a.targets.now a.n a.x m l.seen (memory l.rows l.words) ≡ f l.k l.seen (memory l.rows l.words) =
-    ap (λ (j : ℕ). level_visit a.targets.now a.n a.x j l.seen (memory l.rows l.words)) o in
-    let next = after_visit f l.k (nothing_seen a.look) M l.invariant.1 (l.invariant.4, l.invariant.5)
-    (s.ensures.report_after ∙ ap (λ (v : Visit Seen). v.done) here, s.ensures.seen_value ∙ ap (λ (v : Visit Seen). v.left) here) c.both-report.ensures in
-    (s.auto.1.0 ∙ l.invariant.2, s.auto.1.1.0 ∙ l.invariant.3, next.0, next.1)
+further : (targets : List ℕ) (n : ℕ) (x : Fixpoint) (down : Bool) (look k : ℕ) (M : Memory) {m : ℕ} {rows words rows' words' : List ℕ} {p q r : Report} {z z' : Seen}
+    → m ≡ ordered down n k → p.fails ≡ false → stepped rows words p ≡ (levels_from targets n x down look k M).done → z ≡ (levels_from targets n x down look k M).left
+    → stepped rows' words' q ≡ (level_visit targets n x m z (memory rows words)).done → z' ≡ (level_visit targets n x m z (memory rows words)).left → r ≡ both_reports p q
+    → (stepped rows' words' r ≡ (levels_from targets n x down look (suc k) M).done) × (z' ≡ (levels_from targets n x down look (suc k) M).left)
+further targets n x down look k M {rows = rows} {words = words} {z = z} order so before left visit left' both =
+    let f : ℕ → Seen → Memory → Visit Seen = λ j. level_visit targets n x (ordered down n j) in
+    let here = ap (λ (j : ℕ). level_visit targets n x j z (memory rows words)) order in
+    after_visit f k (nothing_seen look) M so before left (visit ∙ ap (λ (v : Visit Seen). v.done) here) (left' ∙ ap (λ (v : Visit Seen). v.left) here) both
 
 pub loop-k-init : goal.loop-k-init
 unfolding each_with
@@ -55,20 +42,32 @@ level_visit-v-requires c =
     let a = c.args in
     let l = c.loop-k in
     let m = c.if-down.m in
-    let o : m ≡ ordered a.down a.n l.k =
-    ⊎_elim (λ w. going_down a.down a.n l.k m w.0.taken w.1) (λ w. going_up a.down a.n l.k m w.0.left w.1) c.if-down.branch in
-    (fits_on _ _ l.rows l.words p.fits l.invariant.2 l.invariant.3, (rw o (ordered-below a.down a.n l.k (omega arith)), p.n_bound))
+    let o : m ≡ ordered a.down a.n l.k = elim c.if-down.branch as (λ _. m ≡ ordered a.down a.n l.k) [
+      | then-down w ↦ going_down a.down a.n l.k m w.if-down.true w.m-is
+      | else-down w ↦ going_up a.down a.n l.k m w.if-down.false w.m-is
+    ] in
+    record {
+      fits = fits_on _ _ l.rows l.words p.fits l.invariant.2 l.invariant.3;
+      m_lt_n = (rw o (ordered-below a.down a.n l.k (omega arith)), p.n_bound);
+    }
 
 -- one has failed: so have all
 pub returns-then-report : goal.returns-then-report
 returns-then-report c =
     let a = c.args in
-    let k = c.loop-k.k in
+    let l = c.loop-k in
+    let m = c.if-down.m in
+    let v = c.level_visit-v in
+    let o : m ≡ ordered a.down a.n l.k = elim c.if-down.branch as (λ _. m ≡ ordered a.down a.n l.k) [
+      | then-down w ↦ going_down a.down a.n l.k m w.if-down.true w.m-is
+      | else-down w ↦ going_up a.down a.n l.k m w.if-down.false w.m-is
+    ] in
     let f : ℕ → Seen → Memory → Visit Seen = λ k. level_visit a.targets.now a.n a.x (ordered a.down a.n k) in
     let M = memory a.rows.now a.words.now in
-    let done = (further c.before).2 in
-    let rest : suc k + (a.n - suc k) ≡ a.n = omega (arith, c.loop-k-test.true) in
-    done ∙ sym (ap (λ (v : Visit Seen). v.done) (each_failed f (suc k) (nothing_seen a.look) M (sym (ap (λ (s : Stepped). s.report.fails) done) ∙ c.if-report.true) (a.n - suc k)))
+    let next = further a.targets.now a.n a.x a.down a.look l.k M o l.invariant.1 l.invariant.4 l.invariant.5 v.ensures.report_after v.ensures.seen_value c.both-report.ensures in
+    let done = next.0 in
+    let rest : suc l.k + (a.n - suc l.k) ≡ a.n = omega (arith, c.loop-k-test.true) in
+    done ∙ sym (ap (λ (v : Visit Seen). v.done) (each_failed f (suc l.k) (nothing_seen a.look) M (sym (ap (λ (s : Stepped). s.report.fails) done) ∙ c.if-report.true) (a.n - suc l.k)))
     ∙ ap (λ (k : ℕ). (each_with f k (nothing_seen a.look) M).done) rest
 
 pub overflow_add-k : goal.overflow_add-k
@@ -80,16 +79,22 @@ loop-k-smaller c = omega (arith, c.loop-k-test.true)
 pub loop-k-preserved : goal.loop-k-preserved
 loop-k-preserved c =
     let a = c.args in
-    let next = further c.before.before in
-    let f : ℕ → Seen → Memory → Visit Seen = λ k. level_visit a.targets.now a.n a.x (ordered a.down a.n k) in
+    let l = c.loop-k in
+    let m = c.if-down.m in
+    let v = c.level_visit-v in
+    let o : m ≡ ordered a.down a.n l.k = elim c.if-down.branch as (λ _. m ≡ ordered a.down a.n l.k) [
+      | then-down w ↦ going_down a.down a.n l.k m w.if-down.true w.m-is
+      | else-down w ↦ going_up a.down a.n l.k m w.if-down.false w.m-is
+    ] in
     let M = memory a.rows.now a.words.now in
-    let one = add-one c.loop-k.k in (
+    let next = further a.targets.now a.n a.x a.down a.look l.k M o l.invariant.1 l.invariant.4 l.invariant.5 v.ensures.report_after v.ensures.seen_value c.both-report.ensures in
+    let one = add-one l.k in (
       omega (arith, c.loop-k-test.true),
       c.if-report.false,
-      next.0,
-      next.1,
-      next.2 ∙ sym (ap (λ (k : ℕ). (each_with f k (nothing_seen a.look) M).done) one),
-      next.3 ∙ sym (ap (λ (k : ℕ). (each_with f k (nothing_seen a.look) M).left) one),
+      v.auto.rows ∙ l.invariant.2,
+      v.auto.words ∙ l.invariant.3,
+      next.0 ∙ sym (ap (λ (k : ℕ). (levels_from a.targets.now a.n a.x a.down a.look k M).done) one),
+      next.1 ∙ sym (ap (λ (k : ℕ). (levels_from a.targets.now a.n a.x a.down a.look k M).left) one),
     )
 
 pub returns : goal.returns

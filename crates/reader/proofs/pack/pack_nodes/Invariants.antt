@@ -1,5 +1,4 @@
 -- `pack_nodes` meets its contract. The loop's invariant: what is left to store makes of the buffer what all would make of it.
--- `pack_nodes` meets its contract. The loop's invariant: what is left to store makes of the buffer what all would make of it.
 use Prim.Native.Nat.{◌+◌, ◌*◌, ◌≤◌}
 use mathlib.Core.Path.{◌≡◌}
 use lib.ListN.{length, drop}

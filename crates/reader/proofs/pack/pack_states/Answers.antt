@@ -1,5 +1,4 @@
 -- `pack_states` meets its contract. The loop's invariant: what is left to store makes of the buffer what all would make of it.
--- `pack_states` meets its contract. The loop's invariant: what is left to store makes of the buffer what all would make of it.
 use mathlib.Core.Path.{◌≡◌, refl, sym, ap, ◌∙◌}
 use native.Mathlib.Omega.{arith}
 use lib.ListN.{length, drop}

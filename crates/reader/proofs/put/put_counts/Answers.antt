@@ -1,5 +1,4 @@
 -- `put_counts` meets its contract: four stores.
--- `put_counts` meets its contract: four stores.
 use native.Mathlib.Omega.{arith}
 use lib.ListN.{length-set}
 use Rattle.reader.proofs.put.put_counts.Goals as goal

@@ -1,5 +1,4 @@
 -- `put_node` meets its contract: three stores.
--- `put_node` meets its contract: three stores.
 use native.Mathlib.Numerals.{add-one, add-two}
 use native.Mathlib.Omega.{arith}
 use lib.ListN.{length-set}

@@ -12,4 +12,7 @@ pub returns : goal.returns
 returns c =
     let p = c.put.ensures in
     let more = c.spread-more.ensures in
-    (p.raised, record { here = λ t m. p.by_index t (more.by_index t m); behind = λ t s m e. p.by_index s (more.by_index_2 t s m e) })
+    record {
+      raised = p.raised;
+      kept_marked = record { here = λ t m. p.by_index t (more.by_index t m); behind = λ t s m e. p.by_index s (more.by_index_2 t s m e) };
+    }

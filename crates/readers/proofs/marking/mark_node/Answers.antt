@@ -4,7 +4,7 @@ use Rattle.readers.proofs.MarkLaws.{raised_none, raised_then, node_unchanged}
 use Rattle.readers.proofs.marking.mark_node.Goals as goal
 
 pub returns-then-set-eq0 : goal.returns-then-set-eq0
-returns-then-set-eq0 c = (raised_none _, node_unchanged _ _ _ _ c.if-set-eq0.true)
+returns-then-set-eq0 c = record { raised = raised_none _; node_marked = node_unchanged _ _ _ _ c.if-set-eq0.true }
 
 pub overflow_add-at : goal.overflow_add-at
 overflow_add-at c = omega (arith, c.requires.0)
@@ -28,11 +28,12 @@ pub returns : goal.returns
 returns c =
     let p = c.put.ensures in
     let r = c.raise.ensures in
-    let more = c.spread-more.ensures in (
-      raised_then p.raised r.raised,
-      record {
+    let more = c.spread-more.ensures in
+    record {
+      raised = raised_then p.raised r.raised;
+      node_marked = record {
         own = λ t m. r.raised.stays _ t (p.by_index t m);
         here = λ i t q m. r.by_index i t q (more.by_index t m);
         behind = λ i t s q m e. r.by_index i s q (more.by_index_2 t s m e);
-      },
-    )
+      };
+    }

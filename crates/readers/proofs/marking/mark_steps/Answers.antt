@@ -4,7 +4,7 @@ use Rattle.readers.proofs.MarkLaws.{raised_none, raised_then, steps_unchanged}
 use Rattle.readers.proofs.marking.mark_steps.Goals as goal
 
 pub returns-then-set-eq0 : goal.returns-then-set-eq0
-returns-then-set-eq0 c = (raised_none _, steps_unchanged _ _ _ c.if-set-eq0.true)
+returns-then-set-eq0 c = record { raised = raised_none _; steps_marked = steps_unchanged _ _ _ c.if-set-eq0.true }
 
 pub bounds-readers-64 : goal.bounds-readers-64
 bounds-readers-64 c = omega (arith, c.requires.0)
@@ -19,4 +19,7 @@ pub returns : goal.returns
 returns c =
     let p = c.put.ensures in
     let r = c.raise.ensures in
-    (raised_then p.raised r.raised, record { kept = λ s m. r.raised.stays 32 s (p.by_index s m); nodes = r.by_index })
+    record {
+      raised = raised_then p.raised r.raised;
+      steps_marked = record { kept = λ s m. r.raised.stays 32 s (p.by_index s m); nodes = r.by_index };
+    }

@@ -1,7 +1,6 @@
 -- `raise` meets its contract: each word named grows by the set, one after the other.
 use Prim.Native.Nat.{ℕ, ◌<◌}
 use mathlib.Core.Path.{sym, subst}
-use mathlib.Core.Bool.{true}
 use native.Mathlib.Omega.{arith}
 use Rattle.sets.specs.Member.{member, count_of}
 use Rattle.sets.proofs.Walk.{Left, left_first, next_below, left_next, left_fewer}
@@ -9,15 +8,12 @@ use Rattle.readers.proofs.MarkLaws.{raised_none, raised_then, Gone, gone_first, 
 use Rattle.readers.proofs.marking.raise.Invariants.{Has}
 use Rattle.readers.proofs.marking.raise.Goals as goal
 
--- the next member is a state
-low : (c : goal.After-lowest-i) → c.lowest-i.result < 32
-low c = next_below _ c.loop-left.left _ c.loop-left.invariant.0 c.loop-left-test.true c.lowest-i.ensures
-
 pub loop-left-init : goal.loop-left-init
 loop-left-init c = (left_first _ c.ranges.nodes.fits, raised_none _, gone_first _ _)
 
+-- the next member is below 32
 pub put-requires : goal.put-requires
-put-requires c = omega (arith, low c.before, c.loop-left.invariant.1.same_length, c.requires)
+put-requires c = omega (arith, next_below _ c.loop-left.left _ c.loop-left.invariant.0 c.loop-left-test.true c.lowest-i.ensures, c.loop-left.invariant.1.same_length, c.requires)
 
 pub loop-left-smaller : goal.loop-left-smaller
 loop-left-smaller c =
@@ -42,4 +38,4 @@ pub returns : goal.returns
 returns c =
     let l = c.loop-left in
     let each = gone_last _ l.left _ c.ranges.nodes.fits c.loop-left-test.false l.invariant.2 in
-    (l.invariant.1, λ i s m. each i m s)
+    record { raised = l.invariant.1; by_index = λ i s m. each i m s }

@@ -13,18 +13,15 @@ use Rattle.readers.proofs.MarkLaws.{Gone, gone_first, gone_next, gone_last}
 use Rattle.readers.proofs.marking.spread.Invariants.{Spread}
 use Rattle.readers.proofs.marking.spread.Goals as goal
 
--- the next member is a state
-low : (c : goal.After-lowest-t) → c.lowest-t.result < 32
-low c = next_below _ c.loop-left.left _ c.loop-left.invariant.0 c.loop-left-test.true c.lowest-t.ensures
-
 pub loop-left-init : goal.loop-left-init
 loop-left-init c = (left_first _ c.ranges.set.fits, λ t m. m, gone_first _ _)
 
+-- the next member is a state
 pub offset_bounds-readers-t : goal.offset_bounds-readers-t
-offset_bounds-readers-t c = omega (arith, low c)
+offset_bounds-readers-t c = omega (arith, next_below _ c.loop-left.left _ c.loop-left.invariant.0 c.loop-left-test.true c.lowest-t.ensures)
 
 pub bounds-readers-t : goal.bounds-readers-t
-bounds-readers-t c = omega (arith, low c.before, c.requires)
+bounds-readers-t c = omega (arith, next_below _ c.loop-left.left _ c.loop-left.invariant.0 c.loop-left-test.true c.lowest-t.ensures, c.requires)
 
 pub loop-left-smaller : goal.loop-left-smaller
 loop-left-smaller c =
@@ -51,4 +48,4 @@ pub returns : goal.returns
 returns c =
     let l = c.loop-left in
     let each = gone_last _ l.left _ c.ranges.set.fits c.loop-left-test.false l.invariant.2 in
-    (l.invariant.1, λ t s m. each t m s)
+    record { by_index = l.invariant.1; by_index_2 = λ t s m. each t m s }

@@ -3,13 +3,10 @@ use Prim.Native.Nat.{ℕ, ◌+◌, ◌-◌, ◌≤◌, ◌<◌}
 use mathlib.Core.Path.{◌≡◌}
 use mathlib.Core.Bool.{true}
 use mathlib.Core.List.{List}
-use native.Mathlib.Omega.{arith}
 use lib.ListN.{length, get_or}
 use Rattle.sets.specs.Member.{member}
 use Rattle.table.specs.declared.record.Node.{Node}
 use Rattle.table.specs.Table.{table_of, node_at, nodes_part}
-use Rattle.table.proofs.Accepted.{accepted}
-use Rattle.table.proofs.ReadNode.{ReadNode, read_node}
 use Rattle.ctl.specs.Rule.{operator_of}
 use Rattle.readers.specs.Reads.{is_child, reads_steps}
 use Rattle.readers.specs.Readers.{Raised}
@@ -21,13 +18,6 @@ Child readers x i = (k : ℕ) → is_child (operator_of x) k ≡ true → member
 
 abbrev pub Steps : List ℕ → Node → ℕ → Type 0
 Steps readers x i = reads_steps (operator_of x) ≡ true → member (get_or readers 64 0) i ≡ true
-
--- the node that is read is the table's
-pub read : (c : goal.After-node_at-x) → ReadNode c.args.table.now c.loop-i.i c.node_at-x.result
-read c =
-    let l = c.loop-i in
-    let t = c.args.table.now in
-    read_node t c.requires.table_value l.i (omega (arith, l.invariant.0.1, c.loop-i-test.true, (accepted t c.requires.table_value).nodes_count)) _ l.invariant.1 c.node_at-x.result c.node_at-x.ensures
 
 abbrev pub invariant-loop-i : goal.invariant-loop-i
 invariant-loop-i l =

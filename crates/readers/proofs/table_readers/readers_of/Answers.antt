@@ -14,7 +14,7 @@ state_readers-requires c =
     (omega (arith, count, (accepted t c.requires.table_value).table.few_states), (c.requires.targets_len.0, search rules))
 
 pub node_readers-requires : goal.node_readers-requires
-node_readers-requires c = (c.requires.table_value, c.state_readers.ensures.raised.same_length)
+node_readers-requires c = record { table_value = c.requires.table_value; readers_len = c.state_readers.ensures.raised.same_length }
 
 pub returns : goal.returns
 returns c =

@@ -41,4 +41,4 @@ loop-s-preserved c =
 pub returns : goal.returns
 returns c =
     let l = c.loop-s in
-    (l.invariant.1, λ s t h m. l.invariant.2 s (omega (arith, c.loop-s-test.false)) t m)
+    record { raised = l.invariant.1; by_index = λ s t h m. l.invariant.2 s (omega (arith, c.loop-s-test.false)) t m }

@@ -20,7 +20,7 @@ bounds-text-next c =
     let n = length-append (decimal a.value) (a.stop ∷ []) in
     let room = c.requires in
     let next = c.put_number-next.ensures.place in
-    let size = c.put_number-next.auto.0 in
+    let size = c.put_number-next.auto.text in
     omega arith
 
 pub overflow_add-result : goal.overflow_add-result

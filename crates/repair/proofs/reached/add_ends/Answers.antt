@@ -1,7 +1,6 @@
 -- `add_ends` meets its contract. The loop's invariant: the round is made of the steps before j.
 use Prim.Native.Nat.{◌+◌, ◌<◌, zero-le}
 use mathlib.Core.Path.{ap}
-use mathlib.Core.Logic.{⊎_elim}
 use native.Mathlib.Omega.{arith}
 use lib.ListN.{length}
 use Rattle.table.specs.declared.record.Step.{Step}
@@ -9,6 +8,7 @@ use Rattle.table.specs.Table.{table_of}
 use Rattle.table.proofs.Accepted.{read_step}
 use Rattle.repair.proofs.Rounds.{RoundBefore, round_none, round_with, round-without, round-all}
 use Rattle.repair.proofs.reached.add_ends.Goals as goal
+use Rattle.repair.proofs.reached.add_ends.Goals.{then-list-j-eq1, else-list-j-eq1}
 
 pub loop-j-init : goal.loop-j-init
 loop-j-init c = (zero-le, round_none _ _ _ c.ranges.set.fits)
@@ -28,14 +28,15 @@ loop-j-preserved c =
     let part = c.steps_part-steps in
     let inside : l.j < length T.steps = omega (arith, c.requires.list_len, c.loop-j-test.true) in
     let more : RoundBefore T list c.args.set (l.j + 1) c.if-list-j-eq1.next =
-    ⊎_elim
-    (λ w.
-    let x = w.1.result in
-    let r = read_step table c.requires.table_value l.j inside part.result.now part.ensures x w.1.ensures in
-    rw w.4 (round_with T list c.args.set l.j l.next l.invariant.1 inside w.0.taken (rw (ap (λ (y : Step). y.to) r.here) at r.to_below) w.3.result
-    (rw (w.2.ensures, r.here) at w.3.ensures)))
-    (λ w. rw w.1 (round-without T list c.args.set l.j l.next l.invariant.1 w.0.left))
-    c.if-list-j-eq1.branch in
+    elim c.if-list-j-eq1.branch as (λ _. RoundBefore T list c.args.set (l.j + 1) c.if-list-j-eq1.next) [
+      | then-list-j-eq1 w ↦
+          let x = w.step_at-x.result in
+          let r = read_step table c.requires.table_value l.j inside part.result.now part.ensures x w.step_at-x.ensures in
+          rw w.next-is (round_with T list c.args.set l.j l.next l.invariant.1 inside w.if-list-j-eq1.true (rw (ap (λ (y : Step). y.to) r.here) at r.to_below) w.insert_if-next.result
+          (rw (w.contains.ensures, r.here) at w.insert_if-next.ensures))
+      | else-list-j-eq1 w ↦ rw w.next-is (round-without T list c.args.set l.j l.next l.invariant.1 w.if-list-j-eq1.false)
+    ]
+    in
     (omega arith, more)
 
 pub returns : goal.returns

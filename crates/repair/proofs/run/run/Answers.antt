@@ -3,7 +3,7 @@ use Prim.Native.Nat.{ℕ, ◌≤◌}
 use mathlib.Core.Path.{◌≡◌, sym, ap, ◌∙◌}
 use mathlib.Core.List.{List, ◌++◌}
 use native.Mathlib.Omega.{arith}
-use lib.ListN.{length, get_or, take, drop, length-append, length-drop}
+use lib.ListN.{length, get_or, take, drop}
 use lib.Seq.{length-take-le, drop_at}
 use Rattle.table.specs.declared.refusal.Verdict.TheVariants.{Accepted}
 use Rattle.table.specs.Table.{table_of}
@@ -11,7 +11,6 @@ use Rattle.table.specs.Accept.{table_verdict}
 use Rattle.table.specs.Rows.{target_sets}
 use Rattle.table.proofs.Accepted.{accepted, steps_are}
 use Rattle.table.proofs.TargetSets.{targets-length, targets_at}
-use Rattle.circuit.specs.Variables.{variable_formula}
 use Rattle.readers.specs.Readers.{AreReaders}
 use Rattle.closure.specs.declared.net.Net.{Net}
 use Rattle.closure.specs.declared.bases.Bases.{Bases}
@@ -36,47 +35,13 @@ setting_of table ok counts targets bases reads = record {
   reads = reads;
 }
 
--- the first V words
-cells_fit : (s : goal.Start) → s.args.cells ≤ length s.args.words.now
-cells_fit s = omega (arith, s.requires.table_in_bounds_2, s.requires.cells_value)
+-- of the first k words: how many they are, and what the words are after a call that was lent them
+module _ (words : List ℕ) (k : ℕ) (fits : k ≤ length words) where
+  part_length : length (take k words) ≡ k
+  part_length = length-take-le k words fits
 
-part_length : (s : goal.Start) → length (take s.args.cells s.args.words.now) ≡ s.args.cells
-part_length s = length-take-le s.args.cells s.args.words.now (cells_fit s)
-
--- the words after it: as many, and past the first V as they were
-front_length : (c : goal.After-search_table) → length c.search_table.new.words.1.1.1.1.1.1.1.0 ≡ c.args.cells
-front_length c = c.search_table.auto.1.1.1.1.1.1.1.1.0 ∙ part_length c.before.before.before.before.before.before.before.before.before.before.before.before.before.before.before
-
-whole_length : (c : goal.After-search_table)
-    → let start = c.before.before.before.before.before.before.before.before.before.before.before.before.before.before.before in
-    length (c.search_table.new.words.1.1.1.1.1.1.1.0 ++ drop c.args.cells c.args.words.now) ≡ length c.args.words.now
-whole_length c =
-    let start = c.before.before.before.before.before.before.before.before.before.before.before.before.before.before.before in
-    let words = c.args.words.now in
-    omega (arith, front_length c, cells_fit start, length-append c.search_table.new.words.1.1.1.1.1.1.1.0 (drop c.args.cells words), length-drop c.args.cells words)
-
-beyond : (c : goal.After-search_table)
-    → let start = c.before.before.before.before.before.before.before.before.before.before.before.before.before.before.before in
-    drop (variable_formula (table_of c.args.table.now)) (c.search_table.new.words.1.1.1.1.1.1.1.0 ++ drop c.args.cells c.args.words.now)
-    ≡ drop (variable_formula (table_of c.args.table.now)) c.args.words.now
-beyond c =
-    let words = c.args.words.now in
-    let v = c.requires.cells_value in
-    drop_at c.search_table.new.words.1.1.1.1.1.1.1.0 (drop c.args.cells words) _ (front_length c ∙ v) ∙ ap (λ (k : ℕ). drop k words) v
-
--- e, and that the list has e bytes still
-steps_count : (c : goal.After-counts_of-counts)
-    → let gave = c.before.before.before.before.before.before.before.before in
-    let start = gave.before.before.before.before.before.before.before.before.before.before.before.before.before.before.before in
-    c.counts_of-counts.result.steps ≡ length (table_of c.args.table.now).steps
-steps_count c =
-    steps_are c.args.table.now c.counts_of-counts.result c.counts_of-counts.ensures
-
-front_fits : (c : goal.After-counts_of-counts)
-    → let gave = c.before.before.before.before.before.before.before.before in
-    c.counts_of-counts.result.steps ≤ length c.search_table.new.words.1.1.1.1.1.1.0
-front_fits c =
-    omega (arith, steps_count c, c.search_table.auto.1.1.1.1.1.1.1.0, c.requires.table_in_bounds)
+  beyond : (after : List ℕ) → length after ≡ length (take k words) → (v : ℕ) → k ≡ v → drop v (after ++ drop k words) ≡ drop v words
+  beyond after same v e = drop_at after (drop k words) v (same ∙ part_length ∙ e) ∙ ap (λ (n : ℕ). drop n words) e
 
 pub readers_of-readers-requires : goal.readers_of-readers-requires
 readers_of-readers-requires c =
@@ -88,74 +53,74 @@ readers_of-readers-requires c =
     }
 
 pub slice_bounds-search_table-end-4 : goal.slice_bounds-search_table-end-4
-slice_bounds-search_table-end-4 c = cells_fit c.before.before.before.before.before.before.before.before.before.before.before.before.before
+slice_bounds-search_table-end-4 c = omega (arith, c.requires.table_in_bounds_2, c.requires.cells_value)
 
 pub slice_bounds-search_table-end-5 : goal.slice_bounds-search_table-end-5
-slice_bounds-search_table-end-5 c = sym (part_length c.before.before.before.before.before.before.before.before.before.before.before.before.before.before)
+slice_bounds-search_table-end-5 c = sym (part_length c.args.words.now c.args.cells (omega (arith, c.requires.table_in_bounds_2, c.requires.cells_value)))
 
 pub search_table-requires : goal.search_table-requires
 search_table-requires c =
-    let start = c.before.before.before.before.before.before.before.before.before.before.before.before.before.before in
     let T = table_of c.args.table.now in
     let targets = c.target_sets-targets.ensures in
     let bases = c.level_bases-b.ensures in
     let fit = levels_fit T (accepted c.args.table.now c.requires.table_value).table in
-    let setting = setting_of c.args.table.now c.requires.table_value c.net_of-net.ensures targets bases c.readers_of-readers.ensures in
+    let part = part_length c.args.words.now c.args.cells (omega (arith, c.requires.table_in_bounds_2, c.requires.cells_value)) in
     record {
-      setting = setting;
+      setting = setting_of c.args.table.now c.requires.table_value c.net_of-net.ensures targets bases c.readers_of-readers.ensures;
       levels_value = bases.total;
-      table_in_bounds = omega (arith, fit, part_length start, c.requires.cells_value);
+      table_in_bounds = omega (arith, fit, part, c.requires.cells_value);
       table_in_bounds_2 = c.requires.table_in_bounds;
     }
 
+-- the list has e bytes still
 pub slice_bounds-strike_unreached-end : goal.slice_bounds-strike_unreached-end
-slice_bounds-strike_unreached-end c = front_fits c
+slice_bounds-strike_unreached-end c =
+    let count = steps_are c.args.table.now c.counts_of-counts.result c.counts_of-counts.ensures in
+    omega (arith, count, c.search_table.auto.list, c.requires.table_in_bounds)
 
 pub slice_bounds-strike_unreached-end-in-Found : goal.slice_bounds-strike_unreached-end-in-Found
-slice_bounds-strike_unreached-end-in-Found c = sym (length-take-le _ _ (front_fits c.before))
+slice_bounds-strike_unreached-end-in-Found c =
+    let count = steps_are c.args.table.now c.counts_of-counts.result c.counts_of-counts.ensures in
+    sym (length-take-le _ _ (omega (arith, count, c.search_table.auto.list, c.requires.table_in_bounds)))
 
 pub strike_unreached-requires : goal.strike_unreached-requires
 strike_unreached-requires c =
+    let count = steps_are c.args.table.now c.counts_of-counts.result c.counts_of-counts.ensures in
+    let fits : c.counts_of-counts.result.steps ≤ length c.search_table.new.list = omega (arith, count, c.search_table.auto.list, c.requires.table_in_bounds) in
     record {
       table_value = c.requires.table_value;
       net_value = c.net_of-net.ensures;
-      list_len = length-take-le _ _ (front_fits c.before) ∙ steps_count c.before;
+      list_len = length-take-le _ _ fits ∙ count;
     }
 
 pub returns-in-Found : goal.returns-in-Found
 returns-in-Found c =
-    let counts = c.before.before.before.before in
-    let gave = counts.before.before.before.before.before.before.before.before in
     let T = table_of c.args.table.now in
-    let list = c.args.list.now in
     let told = sym c.in-Found.is ∙ c.search_table.ensures.value in
+    let count = steps_are c.args.table.now c.counts_of-counts.result c.counts_of-counts.ensures in
     let struck = c.strike_unreached in
     record {
       value = ap carried told;
-      list_after = after_found T list _ (search_under T c.args.cap) _ _ _ c.counts_of-counts.result.steps told c.search_table.ensures.list_after (steps_count counts) struck.new.list.1.1.0 struck.ensures;
-      words_unchanged = beyond gave;
+      list_after = after_found T c.args.list.now _ (search_under T c.args.cap) _ _ _ c.counts_of-counts.result.steps told c.search_table.ensures.list_after count struck.new.list struck.ensures;
+      words_unchanged = beyond c.args.words.now c.args.cells (omega (arith, c.requires.table_in_bounds_2, c.requires.cells_value)) c.search_table.new.words c.search_table.auto.words _ c.requires.cells_value;
     }
 
 pub returns-in-None : goal.returns-in-None
 returns-in-None c =
-    let gave = c.before.before.before.before.before.before.before in
     let T = table_of c.args.table.now in
-    let list = c.args.list.now in
     let told = sym c.in-None.is ∙ c.search_table.ensures.value in
     record {
       value = ap carried told;
-      list_after = after_none T list _ (search_under T c.args.cap) _ _ told c.search_table.ensures.list_after;
-      words_unchanged = beyond gave;
+      list_after = after_none T c.args.list.now _ (search_under T c.args.cap) _ _ told c.search_table.ensures.list_after;
+      words_unchanged = beyond c.args.words.now c.args.cells (omega (arith, c.requires.table_in_bounds_2, c.requires.cells_value)) c.search_table.new.words c.search_table.auto.words _ c.requires.cells_value;
     }
 
 pub returns-in-Spent : goal.returns-in-Spent
 returns-in-Spent c =
-    let gave = c.before.before.before.before.before.before.before in
     let T = table_of c.args.table.now in
-    let list = c.args.list.now in
     let told = sym c.in-Spent.is ∙ c.search_table.ensures.value in
     record {
       value = ap carried told;
-      list_after = after_spent T list _ (search_under T c.args.cap) _ _ told c.search_table.ensures.list_after;
-      words_unchanged = beyond gave;
+      list_after = after_spent T c.args.list.now _ (search_under T c.args.cap) _ _ told c.search_table.ensures.list_after;
+      words_unchanged = beyond c.args.words.now c.args.cells (omega (arith, c.requires.table_in_bounds_2, c.requires.cells_value)) c.search_table.new.words c.search_table.auto.words _ c.requires.cells_value;
     }

@@ -1,9 +1,7 @@
 -- `strike_unreached` meets its contract. The loop's invariant: the steps before j are struck where that is due, and the others are as they were.
 use Prim.Native.Nat.{ℕ, ◌+◌, ◌<◌, zero-le}
 use mathlib.Core.Path.{◌≡◌, sym, ap, ◌∙◌}
-use mathlib.Core.Logic.{⊎_elim}
 use native.Mathlib.Omega.{arith}
-use borrow.Author.Tests.{not-true, not-false}
 use lib.ListN.{length}
 use Rattle.sets.specs.Member.{member}
 use Rattle.sets.proofs.SetOf.{member-set_of-below}
@@ -13,6 +11,7 @@ use Rattle.table.proofs.Accepted.{accepted, read_step}
 use Rattle.ctl.specs.Reached.{is_reached}
 use Rattle.repair.proofs.Struck.{StruckBefore, struck_none, struck_not, struck_at, struck_all}
 use Rattle.repair.proofs.strike.strike_unreached.Goals as goal
+use Rattle.repair.proofs.strike.strike_unreached.Goals.{then-not-contains, else-not-contains}
 
 pub loop-j-init : goal.loop-j-init
 loop-j-init c = (zero-le, struck_none _ _)
@@ -49,10 +48,11 @@ loop-j-preserved c =
     ∙ member-set_of-below 32 (is_reached T list) x.result.from r.from_below
     ∙ ap (λ (y : Step). is_reached T list y.from) r.here in
     let more : StruckBefore T list (l.j + 1) c.if-not-contains.list =
-    ⊎_elim
-    (λ w. rw w.1 (struck_at T list l.j l.list l.invariant.1 listed (sym reached ∙ not-true _ w.0.taken) inside))
-    (λ w. rw w.1 (struck_not T list l.j l.list l.invariant.1 listed (sym reached ∙ not-false _ w.0.left)))
-    c.if-not-contains.branch in
+    elim c.if-not-contains.branch as (λ _. StruckBefore T list (l.j + 1) c.if-not-contains.list) [
+      | then-not-contains w ↦ rw w.list-is (struck_at T list l.j l.list l.invariant.1 listed (sym reached ∙ w.if-not-contains.true) inside)
+      | else-not-contains w ↦ rw w.list-is (struck_not T list l.j l.list l.invariant.1 listed (sym reached ∙ w.if-not-contains.false))
+    ]
+    in
     (omega arith, more)
 
 pub returns : goal.returns

@@ -13,24 +13,21 @@ use Rattle.rows.specs.Rules.{unmet}
 use Rattle.rows.proofs.next.ahead.Invariants.{is_met, is_lost, found}
 use Rattle.rows.proofs.next.ahead.Goals as goal
 
--- the next member is a state
-low : (c : goal.After-lowest-s) → c.lowest-s.result < 32
-low c = next_below _ c.loop-left.left _ c.loop-left.invariant.0 c.loop-left-test.true c.lowest-s.ensures
-
 pub loop-left-init : goal.loop-left-init
 loop-left-init c = (left_first _ c.ranges.set.fits, collect_first _ _, collect_first _ _)
 
+-- the next member is a state
 pub overflow_mul-s : goal.overflow_mul-s
-overflow_mul-s c = omega (arith, low c)
+overflow_mul-s c = omega (arith, next_below _ c.loop-left.left _ c.loop-left.invariant.0 c.loop-left-test.true c.lowest-s.ensures)
 
 pub row_at-x-requires : goal.row_at-x-requires
-row_at-x-requires c = omega (arith, low c)
+row_at-x-requires c = omega (arith, next_below _ c.loop-left.left _ c.loop-left.invariant.0 c.loop-left-test.true c.lowest-s.ensures)
 
 pub offset_bounds-targets-s : goal.offset_bounds-targets-s
-offset_bounds-targets-s c = omega (arith, low c.before)
+offset_bounds-targets-s c = omega (arith, next_below _ c.loop-left.left _ c.loop-left.invariant.0 c.loop-left-test.true c.lowest-s.ensures)
 
 pub bounds-targets-s : goal.bounds-targets-s
-bounds-targets-s c = omega (arith, low c.before.before)
+bounds-targets-s c = omega (arith, next_below _ c.loop-left.left _ c.loop-left.invariant.0 c.loop-left-test.true c.lowest-s.ensures)
 
 pub loop-left-smaller : goal.loop-left-smaller
 loop-left-smaller c =

@@ -1,5 +1,5 @@
--- `go_back` meets its contract: after the states below s, the rows, the row of the ends and the report are those of `backRows`, `backRow` and
--- `backReport` at s.
+-- `go_back` meets its contract: after the states below s, the rows, the row of the ends and the report are those of `back_rows`, `back_row` and
+-- `back_report` at s.
 use Prim.Native.Nat.{ℕ, ◌+◌, ◌*◌, zero-le}
 use mathlib.Core.Path.{◌≡◌, refl, sym, ap, ◌∙◌}
 use mathlib.Core.Bool.{Bool, true, false}
@@ -70,7 +70,7 @@ loop-s-preserved c =
     let f = c.contains-in-loop-s in
     let d = c.add_step in (
       omega (arith, c.loop-s-test.true),
-      omega (arith, d.auto.0),
+      omega (arith, d.auto.words),
       d.ensures.words_after
           ∙ turn_rows a.targets.now a.ahead a.end a.rows.now l.rows l.s x.result t.result f.result p.result l.invariant.2 x.ensures t.ensures f.ensures p.ensures,
       turn_row a.targets.now a.ahead a.end a.rows.now l.rows l.s x.result t.result f.result p.result l.invariant.2 x.ensures t.ensures f.ensures p.ensures
@@ -85,10 +85,9 @@ pub returns : goal.returns
 returns c =
     let a = c.args in
     let l = c.loop-s in
-    let done : l.s ≡ a.n = omega arith in (
-      l.invariant.3 ∙ ap (back_row a.targets.now a.ahead a.end a.rows.now) done,
-      (
-        l.invariant.4 ∙ ap (back_report a.targets.now a.ahead a.end a.rows.now) done,
-        l.invariant.2 ∙ ap (back_rows a.targets.now a.ahead a.end a.rows.now) done,
-      ),
-    )
+    let done : l.s ≡ a.n = omega arith in
+    record {
+      end_value = l.invariant.3 ∙ ap (back_row a.targets.now a.ahead a.end a.rows.now) done;
+      report_value = l.invariant.4 ∙ ap (back_report a.targets.now a.ahead a.end a.rows.now) done;
+      rows_after = l.invariant.2 ∙ ap (back_rows a.targets.now a.ahead a.end a.rows.now) done;
+    }

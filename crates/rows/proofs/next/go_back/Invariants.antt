@@ -1,5 +1,5 @@
--- `go_back` meets its contract: after the states below s, the rows, the row of the ends and the report are those of `backRows`, `backRow` and
--- `backReport` at s.
+-- `go_back` meets its contract: after the states below s, the rows, the row of the ends and the report are those of `back_rows`, `back_row` and
+-- `back_report` at s.
 use Prim.Native.Nat.{◌-◌, ◌≤◌}
 use mathlib.Core.Path.{◌≡◌}
 use lib.ListN.{length}

@@ -2,11 +2,11 @@
 use Prim.Native.Nat.{ℕ}
 use mathlib.Core.Path.{◌≡◌, sym, ◌∙◌}
 use mathlib.Core.Bool.{Bool, true, false, cond, ◌&&◌}
-use mathlib.Core.Logic.{⊎_elim}
 use lib.Bits.{bit_and}
 use Rattle.rows.specs.Row.{only}
 use Rattle.rows.specs.Rules.{unmet, last_left, row}
 use Rattle.rows.proofs.next.push.Goals as goal
+use Rattle.rows.proofs.next.push.Goals.{then-no+then-is_only, else-no, else-no-via-then-no+else-is_only, else-no-via-else-no}
 
 -- what is taken where both tests hold, by the ways that lead there
 taken : (l x : ℕ) {p q r : Bool} → p ≡ true → q ≡ r → q ≡ true → l ≡ x → l ≡ cond (p && r) x 0
@@ -21,13 +21,15 @@ untested l x r e u = simp e u
 pub returns-then-yes : goal.returns-then-yes
 returns-then-yes c =
     let a = c.args in
-    let l = c.if-no.new in
+    let l = c.if-no.last in
     let u = unmet a.target a.step a.end in
-    let last : l ≡ last_left a.target a.step a.end a.no =
-    ⊎_elim
-    (λ w. taken l u w.0.taken w.1.ensures w.2.taken w.3)
-    (λ w. ⊎_elim (λ v. untaken l u v.0.taken v.1.ensures v.2.left w.1) (λ v. untested l u (only u) v.left w.1) w.0.came)
-    c.if-no.branch in
+    let last : l ≡ last_left a.target a.step a.end a.no = elim c.if-no.branch as (λ _. l ≡ last_left a.target a.step a.end a.no) [
+      | then-no+then-is_only w ↦ taken l u w.if-no.true w.is_only.ensures w.if-is_only.true w.last-is
+      | else-no w ↦ elim w.else-no.branch as (λ _. l ≡ last_left a.target a.step a.end a.no) [
+        | else-no-via-then-no+else-is_only v ↦ untaken l u v.if-no.true v.is_only.ensures v.if-is_only.false w.last-is
+        | else-no-via-else-no v ↦ untested l u (only u) v.if-no.false w.last-is
+      ]
+    ] in
     let is : a.yes ≡ true = c.if-yes.true in
     λ i. record {
       steps = row (last i) (cond (sym is i) (bit_and a.target a.end.no) 0);
@@ -37,13 +39,15 @@ returns-then-yes c =
 pub returns : goal.returns
 returns c =
     let a = c.args in
-    let l = c.if-no.new in
+    let l = c.if-no.last in
     let u = unmet a.target a.step a.end in
-    let last : l ≡ last_left a.target a.step a.end a.no =
-    ⊎_elim
-    (λ w. taken l u w.0.taken w.1.ensures w.2.taken w.3)
-    (λ w. ⊎_elim (λ v. untaken l u v.0.taken v.1.ensures v.2.left w.1) (λ v. untested l u (only u) v.left w.1) w.0.came)
-    c.if-no.branch in
+    let last : l ≡ last_left a.target a.step a.end a.no = elim c.if-no.branch as (λ _. l ≡ last_left a.target a.step a.end a.no) [
+      | then-no+then-is_only w ↦ taken l u w.if-no.true w.is_only.ensures w.if-is_only.true w.last-is
+      | else-no w ↦ elim w.else-no.branch as (λ _. l ≡ last_left a.target a.step a.end a.no) [
+        | else-no-via-then-no+else-is_only v ↦ untaken l u v.if-no.true v.is_only.ensures v.if-is_only.false w.last-is
+        | else-no-via-else-no v ↦ untested l u (only u) v.if-no.false w.last-is
+      ]
+    ] in
     let is : a.yes ≡ false = c.if-yes.false in
     λ i. record {
       steps = row (last i) (cond (sym is i) (bit_and a.target a.end.no) 0);

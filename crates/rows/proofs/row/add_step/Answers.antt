@@ -13,11 +13,12 @@ add-r-requires c = omega arith
 pub returns : goal.returns
 returns c =
     let a = c.args in
-    let r = c.add-r.ensures in (
-      λ i. record {
+    let r = c.add-r.ensures in
+    record {
+      value = λ i. record {
         changed = (r.value i).changed;
         fails = (r.value i).fails;
         steps = (c.insert_if.ensures ∙ ap (λ (q : Report). set_of 32 (λ t. member 0 t || (q.changed && eqb t a.s))) r.value) i;
-      },
-      r.words_after,
-    )
+      };
+      words_after = r.words_after;
+    }

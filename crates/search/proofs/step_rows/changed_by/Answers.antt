@@ -4,13 +4,11 @@ use mathlib.Core.Bool.{◌||◌}
 use lib.Dec.{eqb}
 use Rattle.sets.specs.Member.{member, set_of}
 use Rattle.table.specs.declared.record.Step.{Step}
-use Rattle.table.proofs.Accepted.{ReadStep, read_step}
+use Rattle.table.proofs.Accepted.{read_step}
 use Rattle.search.proofs.step_rows.changed_by.Goals as goal
 
--- the step that was read
-read : (c : goal.After-step_at-x) → ReadStep c.args.table.now c.args.j c.step_at-x.result
-read c =
-    read_step c.args.table.now c.requires.0 c.args.j c.requires.1 c.steps_part-steps.result.now c.steps_part-steps.ensures c.step_at-x.result c.step_at-x.ensures
-
 pub returns : goal.returns
-returns c = c.insert.ensures ∙ ap (λ (x : Step). set_of 32 (λ t. member 0 t || eqb t x.from)) (read c.before).here
+returns c =
+    let a = c.args in
+    let r = read_step a.table.now c.requires.0 a.j c.requires.1 c.steps_part-steps.result.now c.steps_part-steps.ensures c.step_at-x.result c.step_at-x.ensures in
+    c.insert.ensures ∙ ap (λ (x : Step). set_of 32 (λ t. member 0 t || eqb t x.from)) r.here

@@ -36,7 +36,7 @@ returns-then-not-is_settled c =
     let rows = c.args.rows.now in
     let x = c.step_at-x in
     let r = read_step c.args.table.now c.requires.0 l.j (omega arith) part.result.now part.ensures x.result x.ensures in
-    let free : is_unsettled T rows l.j ≡ true = ap (λ (y : Step). not (step_settled rows y)) (sym r.here) ∙ ap not (sym c.is_settled.ensures) ∙ c.if-not-is_settled.true-raw in
+    let free : is_unsettled T rows l.j ≡ true = ap (λ (y : Step). not (step_settled rows y)) (sym r.here) ∙ ap not (sym c.is_settled.ensures) ∙ ap not c.if-not-is_settled.true in
     lowest_here (length T.steps) (is_unsettled T rows) l.j (omega arith) l.invariant.2 free
 
 pub overflow_add-j : goal.overflow_add-j
@@ -54,7 +54,7 @@ loop-j-preserved c =
     let rows = c.args.rows.now in
     let x = c.step_at-x in
     let r = read_step c.args.table.now c.requires.0 l.j (omega arith) part.result.now part.ensures x.result x.ensures in
-    let shut : is_unsettled T rows l.j ≡ false = ap (λ (y : Step). not (step_settled rows y)) (sym r.here) ∙ ap not (sym c.is_settled.ensures) ∙ c.if-not-is_settled.false-raw in
+    let shut : is_unsettled T rows l.j ≡ false = ap (λ (y : Step). not (step_settled rows y)) (sym r.here) ∙ ap not (sym c.is_settled.ensures) ∙ ap not c.if-not-is_settled.false in
     (omega arith, l.invariant.1, below_more (λ i. is_unsettled T rows i ≡ false) l.j l.invariant.2 shut)
 
 pub returns : goal.returns

@@ -3,7 +3,7 @@ use Prim.Native.Nat.{◌+◌}
 use mathlib.Core.Path.{◌≡◌, sym, ap, ◌∙◌}
 use mathlib.Core.Bool.{true, false}
 use native.Mathlib.Omega.{arith}
-use borrow.Author.Tests.{eq-eqb, ne_eqb, not-false}
+use borrow.Author.Tests.{eq-eqb, ne_eqb}
 use lib.ListN.{get_or, drop, drop_of_length-le}
 use Rattle.table.proofs.Scan.{drop_next}
 use Rattle.sheet.specs.Parse.{is_digit, extends, digits_up_to, field}
@@ -12,11 +12,11 @@ use Rattle.sheet.proofs.field.read_field.Goals as goal
 
 -- the first byte is a digit
 first-digit : (c : goal.Else-not-is_digit) → is_digit (get_or c.args.text.now c.args.at 0) ≡ true
-first-digit c = sym c.is_digit.ensures ∙ not-false _ c.if-not-is_digit.false-raw
+first-digit c = sym c.is_digit.ensures ∙ c.if-not-is_digit.false
 
 -- the byte at i is a digit that may follow
 next-digit : (c : goal.Else-not-extends) → extends c.args.max c.loop-i.value (get_or c.args.text.now c.loop-i.i 0) ≡ true
-next-digit c = sym c.extends.ensures ∙ not-false _ c.if-not-extends.false-raw
+next-digit c = sym c.extends.ensures ∙ c.if-not-extends.false
 
 turn : (c : goal.Else-not-extends) → Follows c.args.max c.loop-i.value (get_or c.args.text.now c.loop-i.i 0)
 turn c = follows c.args.max c.loop-i.value (get_or c.args.text.now c.loop-i.i 0) (next-digit c)
@@ -112,7 +112,7 @@ loop-i-preserved c =
     let l = a.text.now in
     let v = c.loop-i.value in
     let i = c.loop-i.i in
-    let fits = (turn c).ranges in
+    let fits = (turn c).fits in
     (omega arith, omega arith, c.loop-i.invariant.2 ∙ ap (digits_up_to a.max a.stop v) (drop_next l i c.loop-i-test.true) ∙ scan_more a.max a.stop v (get_or l i 0) (drop (i + 1) l) (ne_eqb _ _ c.if-b-stop.false) (next-digit c))
 
 pub returns : goal.returns

@@ -9,11 +9,11 @@ use Rattle.walk.proofs.Reached.{comes_failed, comes_dear, comes_found, comes_uns
 use Rattle.walk.proofs.reach.assess.Goals as goal
 
 pub returns-then-closed : goal.returns-then-closed
-returns-then-closed c =
+returns-then-closed c words P b fine closes rest stores =
     comes_failed _ (accepted c.args.table.now c.requires.table_value.0).table P fine _ _ closes rest c.args.best c.args.find.now b stores c.if-closed.true
 
 pub returns-then-j-counts : goal.returns-then-j-counts
-returns-then-j-counts c =
+returns-then-j-counts c words P b fine closes rest stores =
     let e : c.counts_of-counts.result.steps ≡ length (table_of c.args.table.now).steps =
     steps_are c.args.table.now c.counts_of-counts.result c.counts_of-counts.ensures in
     let under : c.undercuts.result ≡ beats c.struck_price-price.result c.args.best = c.undercuts.ensures in
@@ -25,16 +25,16 @@ pub write_list-requires : goal.write_list-requires
 write_list-requires c = (c.requires.table_value.0, c.requires.table_value.1, c.requires.table_in_bounds)
 
 pub returns-then-undercuts : goal.returns-then-undercuts
-returns-then-undercuts c =
+returns-then-undercuts c words P b fine closes rest stores =
     let e : c.counts_of-counts.result.steps ≡ length (table_of c.args.table.now).steps =
     steps_are c.args.table.now c.counts_of-counts.result c.counts_of-counts.ensures in
     let under : c.undercuts.result ≡ beats c.struck_price-price.result c.args.best = c.undercuts.ensures in
     comes_found _ (accepted c.args.table.now c.requires.table_value.0).table P fine _ _ closes rest c.args.best c.args.find.now b stores
     c.if-closed.false c.struck_price-price.result c.struck_price-price.ensures (sym c.if-undercuts.true ∙ under)
-    c.lowest_unsettled-j.result c.lowest_unsettled-j.ensures (omega arith) c.write_list.new.list.1.1.0 c.write_list.ensures
+    c.lowest_unsettled-j.result c.lowest_unsettled-j.ensures (omega arith) c.write_list.new.list c.write_list.ensures
 
 pub returns : goal.returns
-returns c =
+returns c words P b fine closes rest stores =
     let under : c.undercuts.result ≡ beats c.struck_price-price.result c.args.best = c.undercuts.ensures in
     comes_dear _ (accepted c.args.table.now c.requires.table_value.0).table P fine _ _ closes rest c.args.best c.args.find.now b stores
     c.if-closed.false c.struck_price-price.result c.struck_price-price.ensures (sym c.if-undercuts.false ∙ under)

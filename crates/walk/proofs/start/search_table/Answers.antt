@@ -22,10 +22,10 @@ walk_table-walked-requires c =
     let e = c.close_nothing-closed.ensures in record {
       handed = record {
         setting = c.requires.setting;
-        all-levels = c.requires.levels_value;
+        all_levels = c.requires.levels_value;
         rows_size = e.sized.rows_size;
         small_rows = e.sized.small_rows;
-        words_size = omega (arith, c.close_nothing-closed.auto.1.1.1.1.1.1.0, c.requires.table_in_bounds);
+        words_size = omega (arith, c.close_nothing-closed.auto.words, c.requires.table_in_bounds);
         room = (accepted c.args.table.now c.requires.setting.accepted).table.few_steps;
       };
       closes = e.closes;
@@ -36,7 +36,7 @@ pub finish-requires : goal.finish-requires
 finish-requires c =
     record {
       table_value = c.requires.setting.accepted;
-      table_in_bounds = (omega (arith, c.walk_table-walked.auto.1.1.1.1.1.1.1.1.1.0, (accepted c.args.table.now c.requires.setting.accepted).table.few_steps), c.requires.table_in_bounds_2);
+      table_in_bounds = (omega (arith, c.walk_table-walked.auto.find, (accepted c.args.table.now c.requires.setting.accepted).table.few_steps), c.requires.table_in_bounds_2);
     }
 
 pub returns : goal.returns
@@ -44,9 +44,9 @@ returns c =
     let T = table_of c.args.table.now in
     let wf = (accepted c.args.table.now c.requires.setting.accepted).table in
     let r = c.walk_table-walked.result in
-    let find = c.walk_table-walked.new.words.1.1.1.1.1.1.1.1.0 in
+    let find = c.walk_table-walked.new.find in
     let settled = settled_only T wf [] (closure-is_right T wf).fine_none c.close_nothing-closed.result.settled c.close_nothing-closed.ensures.closes.settled in record {
       value = c.finish.ensures.value ∙ start_answer T c.args.cap find r c.walk_table-walked.ensures c.close_nothing-closed.result.settled settled;
       list_after = c.finish.ensures.list_after ∙ start_list T c.args.cap find r c.walk_table-walked.ensures c.args.list.now;
-      words_len_unchanged = c.walk_table-walked.auto.1.1.1.1.1.1.1.1.1.1.0 ∙ c.close_nothing-closed.auto.1.1.1.1.1.1.0;
+      words_len_unchanged = c.walk_table-walked.auto.words ∙ c.close_nothing-closed.auto.words;
     }
