@@ -12,7 +12,7 @@ use lib.ListN.{length}
 use Rattle.table.specs.declared.family.Family.{Family}
 use Rattle.table.specs.Table.{Table, node_at}
 use Rattle.table.specs.Facts.{Wellformed}
-use Rattle.ctl.specs.Rule.{Quantifier, fixpoint as fixpointOf, operator_of}
+use Rattle.ctl.specs.Rule.{Quantifier, fixpoint as fixpoint_of, operator_of}
 use Rattle.circuit.specs.Logic.{Literal}
 use Rattle.circuit.specs.Variables.{Var, level}
 use Rattle.rows.specs.declared.row.Row.{Row}
@@ -37,18 +37,18 @@ use Rattle.closure.proofs.InsideParts.{fixpoint_below, word_place, inner_of, ins
 abbrev pub fixpoint : Table → Family → ℕ → Bool → ℕ → ℕ → Fixpoint
 fixpoint T fam i e a b = fixpoint_at fam i e a b (level_base T i)
 
-module _ (T : Table) (i : ℕ) (fam : Family) (q : Quantifier) (a b : ℕ) (h : i < length T.nodes) (op : operator_of (node_at T i) ≡ fixpointOf fam q a b)
+module _ (T : Table) (i : ℕ) (fam : Family) (q : Quantifier) (a b : ℕ) (h : i < length T.nodes) (op : operator_of (node_at T i) ≡ fixpoint_of fam q a b)
     (m : ℕ) (some : 0 < m) (few : m < length T.states) where
   -- a word place lies in the words
   word_fits : word_place T i m + 1 < level_total T
   word_fits = omega (arith, level-place T i fam q a b h op)
 
   -- apart from those of the other levels
-  word_apart : (k : ℕ) (fam' : Family) (r : Quantifier) (c d : ℕ) → k < length T.nodes → operator_of (node_at T k) ≡ fixpointOf fam' r c d
+  word_apart : (k : ℕ) (fam' : Family) (r : Quantifier) (c d : ℕ) → k < length T.nodes → operator_of (node_at T k) ≡ fixpoint_of fam' r c d
       → (j : ℕ) → 0 < j → j < length T.states → ¬ ((k ≡ i) × (j ≡ m)) → Apart (word_place T k j) (word_place T i m)
   word_apart k fam' r c d l o j some-j few-j differ = go (dec_lt k i) (dec_lt i k) (dec_lt j m)
     where
-      size : (k : ℕ) (fam' : Family) (r : Quantifier) (c d : ℕ) → operator_of (node_at T k) ≡ fixpointOf fam' r c d
+      size : (k : ℕ) (fam' : Family) (r : Quantifier) (c d : ℕ) → operator_of (node_at T k) ≡ fixpoint_of fam' r c d
           → level_size (length T.states) (operator_of (node_at T k)) ≡ 2 * (length T.states - 1)
       size k fam' r c d o = ap (level_size (length T.states)) o
 
@@ -60,7 +60,7 @@ module _ (T : Table) (i : ℕ) (fam : Family) (q : Quantifier) (a b : ℕ) (h : 
           let e : k ≡ i = omega (arith, p, y) in let f : ¬ (j ≡ m) = λ f. differ (e, f) in inr (omega (arith, ap (level_base T) e, z, f))
 
 module _ (T : Table) (wf : Wellformed T) (M : Memory) (sized : Sized T M) (x : Row) (small : SmallRow x)
-    (i : ℕ) (fam : Family) (q : Quantifier) (a b : ℕ) (h : i < length T.nodes) (op : operator_of (node_at T i) ≡ fixpointOf fam q a b) where
+    (i : ℕ) (fam : Family) (q : Quantifier) (a b : ℕ) (h : i < length T.nodes) (op : operator_of (node_at T i) ≡ fixpoint_of fam q a b) where
   advance_word : (m : ℕ) → 0 < m → m < length T.states → Given T M (λ S. RowIn T S (level i m) x)
       → Advances T (λ K. Quiet x (row_at M.words (word_place T i m))) M (add_word (word_place T i m) x M)
   advance_word m some few given = add_word_lem T M sized (word_place T i m) x small (word_fits T i fam q a b h op m some few) (record {
@@ -76,7 +76,7 @@ module _ (T : Table) (wf : Wellformed T) (M : Memory) (sized : Sized T M) (x : R
       fits = omega (arith, word_fits T i fam q a b h op m some few, sized.words_size)
 
       suits : (S : Literal Var → Type 0) → RowIn T S (level i m) x
-          → (k : ℕ) (fam' : Family) (r : Quantifier) (c d j : ℕ) → k < length T.nodes → operator_of (node_at T k) ≡ fixpointOf fam' r c d → 0 < j → j < length T.states
+          → (k : ℕ) (fam' : Family) (r : Quantifier) (c d j : ℕ) → k < length T.nodes → operator_of (node_at T k) ≡ fixpoint_of fam' r c d → 0 < j → j < length T.states
           → Dec (k ≡ i) → Dec (j ≡ m) → Suits (RowIn T S (level k j)) x (word_place T i m) (word_place T k j)
       suits S added k fam' r c d j l o s f (yes e) (yes g) = inr (
         ap (λ (y : ℕ). word_place T y j) e ∙ ap (word_place T i) g,

@@ -170,11 +170,11 @@ module _ (T : Table) (wf : Wellformed T) (targets : List ℕ) (ends : (s : ℕ) 
         (union_in T (ForcedBy T P) end _ _ (row_in k (omega arith) P inside)
         (subst (λ (t : ℕ). RowIn T (ForcedBy T P) end (turned (is_every q) (end_by q A E t k here))) (ends_at k l) one))
 
-    pub go_back_advance : (endRow : Knowledge → Row) (addEnd : Row → Memory → Stepped)
-        → ((x : Row) → SmallRow x → (N : Memory) → Sized T N → Given T N (λ S. RowIn T S end x) → Advances T (λ K. Within x (endRow K)) N (addEnd x N))
-        → Advances T (λ K. (s : ℕ) → s < length T.states → BackRest T q A E (turned (is_every q) (endRow K)) K s) M
-        (go_back targets (length T.states) (is_every q) A E addEnd M)
-    go_back_advance endRow addEnd add =
+    pub go_back_advance : (end_row : Knowledge → Row) (add_end : Row → Memory → Stepped)
+        → ((x : Row) → SmallRow x → (N : Memory) → Sized T N → Given T N (λ S. RowIn T S end x) → Advances T (λ K. Within x (end_row K)) N (add_end x N))
+        → Advances T (λ K. (s : ℕ) → s < length T.states → BackRest T q A E (turned (is_every q) (end_row K)) K s) M
+        (go_back targets (length T.states) (is_every q) A E add_end M)
+    go_back_advance end_row add_end add =
         let n = length T.states in
         let steps = back_advance n (omega arith) in
         let last = add (turned (is_every q) (row_of n)) (turned_small (is_every q) (row_of n) (row_small n (omega arith))) (memory (rows n) M.words) steps.sized
@@ -182,21 +182,21 @@ module _ (T : Table) (wf : Wellformed T) (targets : List ℕ) (ends : (s : ℕ) 
         advance_so T (λ z s l. (
           (z.0 s l).0,
           λ t sign m.
-              turned_within (is_every q) (row_of n) (endRow (knowledge T M)) z.1 t sign ((z.0 s l).1 t sign m),
+              turned_within (is_every q) (row_of n) (end_row (knowledge T M)) z.1 t sign ((z.0 s l).1 t sign m),
         )) (advance_then T steps last)
 
     -- where there is nothing to take back, nothing is done, and nothing had to be
-    pub go_back_more_advance : (endRow : Knowledge → Row) (addEnd : Row → Memory → Stepped)
-        → ((x : Row) → SmallRow x → (N : Memory) → Sized T N → Given T N (λ S. RowIn T S end x) → Advances T (λ K. Within x (endRow K)) N (addEnd x N))
-        → Advances T (λ K. (s : ℕ) → s < length T.states → BackRest T q A E (turned (is_every q) (endRow K)) K s) M
-        (go_back_more targets (length T.states) (is_every q) A E addEnd M)
-    go_back_more_advance endRow addEnd add = go (is_none A) refl
+    pub go_back_more_advance : (end_row : Knowledge → Row) (add_end : Row → Memory → Stepped)
+        → ((x : Row) → SmallRow x → (N : Memory) → Sized T N → Given T N (λ S. RowIn T S end x) → Advances T (λ K. Within x (end_row K)) N (add_end x N))
+        → Advances T (λ K. (s : ℕ) → s < length T.states → BackRest T q A E (turned (is_every q) (end_row K)) K s) M
+        (go_back_more targets (length T.states) (is_every q) A E add_end M)
+    go_back_more_advance end_row add_end add = go (is_none A) refl
       where
         go : (b : Bool) → is_none A ≡ b
-            → Advances T (λ K. (s : ℕ) → s < length T.states → BackRest T q A E (turned (is_every q) (endRow K)) K s) M
-            (cond b (failing false M) (go_back targets (length T.states) (is_every q) A E addEnd M))
+            → Advances T (λ K. (s : ℕ) → s < length T.states → BackRest T q A E (turned (is_every q) (end_row K)) K s) M
+            (cond b (failing false M) (go_back targets (length T.states) (is_every q) A E add_end M))
         go true none = advance_so T (λ z s l. (
           none_steps q A E (target_set T.steps s) s ((knowledge T M).steps s) none ((knowledge T M).steps s),
-          none_end q A E (target_set T.steps s) s ((knowledge T M).steps s) none (turned (is_every q) (endRow (knowledge T M))),
+          none_end q A E (target_set T.steps s) s ((knowledge T M).steps s) none (turned (is_every q) (end_row (knowledge T M))),
         )) (advance_failing T false M sized (λ e. absurd (false≢true e)))
-        go false some = go_back_advance endRow addEnd add
+        go false some = go_back_advance end_row add_end add

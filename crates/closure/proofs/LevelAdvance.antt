@@ -14,7 +14,7 @@ use Rattle.table.specs.declared.family.Family.{Family}
 use Rattle.table.specs.Table.{Table, node_at}
 use Rattle.table.specs.Facts.{Wellformed}
 use Rattle.table.specs.Rows.{target_set}
-use Rattle.ctl.specs.Rule.{Quantifier, fixpoint as fixpointOf, operator_of}
+use Rattle.ctl.specs.Rule.{Quantifier, fixpoint as fixpoint_of, operator_of}
 use Rattle.circuit.specs.Variables.{Var, ahead, level, value}
 use Rattle.rows.specs.declared.row.Row.{Row}
 use Rattle.rows.specs.declared.joined.Joined.{Joined}
@@ -70,7 +70,7 @@ module _ (T : Table) where
 module _ (T : Table) (wf : Wellformed T) (targets : List ℕ) (ends : (s : ℕ) → s < 32 → get_or targets s 0 ≡ target_set T.steps s)
     (i : ℕ) (h : i < length T.nodes) (fam : Family) (q : Quantifier) (a : ℕ) (m : ℕ) (few : m < length T.states) where
   -- with the second child as what is known has it
-  module _ (op : operator_of (node_at T i) ≡ fixpointOf fam q a (second_child (operator_of (node_at T i)))) (M : Memory) (sized : Sized T M) where
+  module _ (op : operator_of (node_at T i) ≡ fixpoint_of fam q a (second_child (operator_of (node_at T i)))) (M : Memory) (sized : Sized T M) where
     abbrev b : ℕ
     b = second_child (operator_of (node_at T i))
 
@@ -231,7 +231,7 @@ module _ (T : Table) (wf : Wellformed T) (targets : List ℕ) (ends : (s : ℕ) 
 -- the levels of a fixed-point node, whose words begin at `base`
 pub levels_advance : (T : Table) (wf : Wellformed T) (targets : List ℕ) → ((s : ℕ) → s < 32 → get_or targets s 0 ≡ target_set T.steps s)
     → (look : ℕ) → OfStates T look
-    → (i : ℕ) → i < length T.nodes → (fam : Family) (q : Quantifier) (a b : ℕ) → operator_of (node_at T i) ≡ fixpointOf fam q a b
+    → (i : ℕ) → i < length T.nodes → (fam : Family) (q : Quantifier) (a b : ℕ) → operator_of (node_at T i) ≡ fixpoint_of fam q a b
     → (base : ℕ) → base ≡ level_base T i → (down : Bool) (M : Memory) → Sized T M
     → Advances T (λ K. (m : ℕ) → m < length T.states → (s : ℕ) → s < length T.states → member look s ≡ true
     → RestLevel T K fam q a b (K.levels i (suc m)) (K.levels i m) s) M
@@ -254,4 +254,4 @@ levels_advance T wf targets ends look inside i h fam q a b op base e down M size
         let same : second_child (operator_of (node_at T i)) ≡ b = ap second_child op in
         subst (λ (k : ℕ). Visits a b k m v N) (sym e)
         (subst (λ (c : ℕ). SeenRest T look fam q a c v (knowledge T N) → Visits a c (level_base T i) m v N) same
-        (visit T wf targets ends i h fam q a m l (op ∙ ap (fixpointOf fam q a) (sym same)) N sized-N look v) seen)
+        (visit T wf targets ends i h fam q a m l (op ∙ ap (fixpoint_of fam q a) (sym same)) N sized-N look v) seen)

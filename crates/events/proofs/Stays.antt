@@ -169,11 +169,11 @@ module _ (N : ℕ → Type 0) (K : Type 0) (W : ℕ → Type 0) (size : ℕ) whe
         moves_then before (move_step (memory rows M.words) before.0 k (omega arith) (pushed_at targets ahead end rows k).steps)
 
   -- with what the ends get
-  move_go_back : (targets : List ℕ) (n : ℕ) → n ≤ 32 → (e : Bool) (more end : Row) (addEnd : Row → Memory → Stepped)
-      → ((x : Row) (M : Memory) → Fits size M → Moves M (addEnd x M)) → (M : Memory) → Fits size M → Moves M (go_back_more targets n e more end addEnd M)
-  move_go_back targets n few e more end addEnd ends M fits =
+  move_go_back : (targets : List ℕ) (n : ℕ) → n ≤ 32 → (e : Bool) (more end : Row) (add_end : Row → Memory → Stepped)
+      → ((x : Row) (M : Memory) → Fits size M → Moves M (add_end x M)) → (M : Memory) → Fits size M → Moves M (go_back_more targets n e more end add_end M)
+  move_go_back targets n few e more end add_end ends M fits =
       let back = move_back targets (turned e more) (turned e end) M fits n few in
-      moves_either (is_none more) (failing false M) (go_back targets n e more end addEnd M) (move_none M fits false)
+      moves_either (is_none more) (failing false M) (go_back targets n e more end add_end M) (move_none M fits false)
       (moves_then back (ends (turned e (back_row targets (turned e more) (turned e end) M.rows n)) (memory (back_rows targets (turned e more) (turned e end) M.rows n) M.words) back.0))
 
   -- ---- the gates of a node without levels

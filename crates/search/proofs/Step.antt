@@ -22,16 +22,16 @@ chosen stop p cheap Q best count onward = elim stop [ true ↦ cut count | false
 abbrev pub and_then : Walked → (Best → ℕ → Walked) → Walked
 and_then w more = elim w [ passed b c ↦ more b c | cut c ↦ cut c ]
 
-module _ (atCap : ℕ → Bool) (close : List (Literal ℕ) → Progress) (price : Marks → ℕ)
+module _ (at_cap : ℕ → Bool) (close : List (Literal ℕ) → Progress) (price : Marks → ℕ)
     (j : ℕ) (js : List ℕ) (P : List (Literal ℕ)) (m : Marks) (best : Best) (count : ℕ) where
   -- a settled step is passed
-  pub walk_known : is_known (mark_at m j) ≡ true → walk atCap close price (j ∷ js) P m best count ≡ walk atCap close price js P m best count
+  pub walk_known : is_known (mark_at m j) ≡ true → walk at_cap close price (j ∷ js) P m best count ≡ walk at_cap close price js P m best count
   unfolding walk
   walk_known e = rw (e, walk)
 
   -- an unsettled step is chosen kept and then struck
   pub walk_unknown : is_known (mark_at m j) ≡ false
-      → walk atCap close price (j ∷ js) P m best count
-      ≡ and_then (choose atCap close price (pos j) P best count (walk atCap close price js)) (λ b c. choose atCap close price (neg j) P b c (walk atCap close price js))
+      → walk at_cap close price (j ∷ js) P m best count
+      ≡ and_then (choose at_cap close price (pos j) P best count (walk at_cap close price js)) (λ b c. choose at_cap close price (neg j) P b c (walk at_cap close price js))
   unfolding walk
   walk_unknown e = rw (e, walk)

@@ -45,10 +45,10 @@ module _ (close : List (Literal ℕ) → Progress) (price : Marks → ℕ) where
     | marked m new ↦ elim (undercuts (price m) best) [ true ↦ onward P m best count | false ↦ passed best count ]
   ]
 
-module _ (atCap : ℕ → Bool) (close : List (Literal ℕ) → Progress) (price : Marks → ℕ) where
+module _ (at_cap : ℕ → Bool) (close : List (Literal ℕ) → Progress) (price : Marks → ℕ) where
   -- choose a literal on top of P, where the count is below the cap
   abbrev pub choose : Literal ℕ → List (Literal ℕ) → Best → ℕ → (List (Literal ℕ) → Marks → Best → ℕ → Walked) → Walked
-  choose l P best count onward = elim (atCap count) [ true ↦ cut count | false ↦ pursue close price (l ∷ P) best (suc count) onward ]
+  choose l P best count onward = elim (at_cap count) [ true ↦ cut count | false ↦ pursue close price (l ∷ P) best (suc count) onward ]
 
   -- The steps not yet passed, lowest first; m is the closure of P. Where all are passed, m is a find, and cheaper than those before. A settled step is
   -- passed; an unsettled one is chosen kept and then, whether or not that led to a find, struck. Once it is chosen, every step up to it is settled for good.

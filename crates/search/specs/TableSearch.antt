@@ -30,7 +30,7 @@ module _ (T : Table) where
 
   -- the search under a cap, or without one, with the clauses of the table
   unfoldable pub table_search : (ℕ → Bool) → List (List (Literal ℕ)) → Outcome
-  table_search atCap F = search atCap (closure (variable_count T) F) mark_price (below (length T.steps))
+  table_search at_cap F = search at_cap (closure (variable_count T) F) mark_price (below (length T.steps))
 
   abbrev pub search_under : ℕ → Outcome
   search_under cap = table_search (capped cap) (numbered_clauses T)

@@ -1,6 +1,6 @@
 // One value: its digits, and the byte behind them.
 ghost use Rattle.std.specs.Prelude.{◌≡◌, ◌≤◌, drop};
-ghost use Rattle.sheet.specs.Parse.{field, is_digit, extends as mayFollow};
+ghost use Rattle.sheet.specs.Parse.{field, is_digit, extends as may_follow};
 ghost use Rattle.sheet.specs.Place.{field_read};
 
 pub const SPACE: u8 = 32;
@@ -27,7 +27,7 @@ fn is_digit(b: u8) -> bool
 // Whether b may stand behind the digits of value: behind a 0 no digit does, and a value is at most max.
 fn extends(max: usize, value: usize, b: u8) -> bool
     requires { value ≤ 65535 }
-    ensures { result ≡ mayFollow max value b }
+    ensures { result ≡ may_follow max value b }
 {
     if !is_digit(b) {
         return false;
