@@ -24,6 +24,10 @@ module _ (table : List ℕ) (k : Counts) (e : k ≡ counts_of table) where
   list_is : (list : List ℕ) (v : Verdict) → v ≡ list_verdict k.steps list → v ≡ list_verdict (length (table_of table).steps) list
   list_is list v f = f ∙ ap (λ (m : ℕ). list_verdict m list) (steps_are table k e)
 
+  -- a list that passed the code's test is of the form that the table asks for
+  list_passed : (list : List ℕ) (v : Verdict) → v ≡ list_verdict k.steps list → v ≡ Accepted → list_verdict (length (table_of table).steps) list ≡ Accepted
+  list_passed list v f ok = sym (list_is list v f) ∙ ok
+
   room_is : (room : Room) (b : Bool) → b ≡ room_for room k.states k.nodes → b ≡ room_fits room (table_of table)
   room_is room b f = f ∙ (λ j. room_for room (states_are table k e j) (nodes_are table k e j))
 
@@ -61,9 +65,7 @@ returns-then-not-room_fits c =
     let k = c.counts_of-c in
     let short = sym (room_is t k.result k.ensures a.room c.room_fits.result c.room_fits.ensures) ∙ c.if-not-room_fits.true in
     refused_analysis (analysis_verdict a.room t l) ShortBuffer (table_of t) l c.refused-then-not-room_fits.result
-    (room_refused a.room t l (sym c.check_table-first.ensures ∙ c.in_default.is) (let h : let s = c.before.before.before.before.before.before.before.before.before in list_verdict (length (table_of c.args.table.now).steps) c.args.list.now ≡ Accepted = let k = c.counts_of-c in
-    let v = c.check_list-second in
-    sym (list_is c.args.table.now k.result k.ensures c.args.list.now v.result v.ensures) ∙ c.in_default-second.is in h) short) c.refused-then-not-room_fits.ensures
+    (room_refused a.room t l (sym c.check_table-first.ensures ∙ c.in_default.is) (list_passed t k.result k.ensures l c.check_list-second.result c.check_list-second.ensures c.in_default-second.is) short) c.refused-then-not-room_fits.ensures
 
 pub analysed-requires : goal.analysed-requires
 analysed-requires c =
@@ -73,9 +75,7 @@ analysed-requires c =
     let k = c.counts_of-c in
     record {
       table_value = (sym c.check_table-first.ensures ∙ c.in_default.is);
-      list_len = list_length (length (table_of t).steps) l (let h : let s = c.before.before.before.before.before.before.before.before.before in list_verdict (length (table_of c.args.table.now).steps) c.args.list.now ≡ Accepted = let k = c.counts_of-c in
-          let v = c.check_list-second in
-          sym (list_is c.args.table.now k.result k.ensures c.args.list.now v.result v.ensures) ∙ c.in_default-second.is in h);
+      list_len = list_length (length (table_of t).steps) l (list_passed t k.result k.ensures l c.check_list-second.result c.check_list-second.ensures c.in_default-second.is);
       n_value = (states_are t k.result k.ensures, nodes_are t k.result k.ensures);
     }
 
@@ -87,6 +87,4 @@ returns c =
     let k = c.counts_of-c in
     let fits = sym (room_is t k.result k.ensures a.room c.room_fits.result c.room_fits.ensures) ∙ c.if-not-room_fits.false in
     c.analysed.ensures
-    ∙ sym (ap (λ (v : Verdict). analysis_at v (table_of t) l) (room_passed a.room t l (sym c.check_table-first.ensures ∙ c.in_default.is) (let h : let s = c.before.before.before.before.before.before.before.before.before in list_verdict (length (table_of c.args.table.now).steps) c.args.list.now ≡ Accepted = let k = c.counts_of-c in
-    let v = c.check_list-second in
-    sym (list_is c.args.table.now k.result k.ensures c.args.list.now v.result v.ensures) ∙ c.in_default-second.is in h) fits))
+    ∙ sym (ap (λ (v : Verdict). analysis_at v (table_of t) l) (room_passed a.room t l (sym c.check_table-first.ensures ∙ c.in_default.is) (list_passed t k.result k.ensures l c.check_list-second.result c.check_list-second.ensures c.in_default-second.is) fits))

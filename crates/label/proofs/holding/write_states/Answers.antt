@@ -59,19 +59,31 @@ module _ {set initial first others k : ℕ} {out : List ℕ} (p : Parts set init
       ∙ ap (λ (xs : List ℕ). xs ++ drop (length xs) out) (sym p.states)
 
 pub write_ascending-requires : goal.write_ascending-requires
-write_ascending-requires c = omega (arith, (let h : let a = c.args in Parts a.set a.initial c.intersection-first.result c.minus-others.result c.count-k.result a.out.now = parts_of_lem c.args.set c.args.initial _ _ _ c.args.out.now c.intersection-first.ensures c.minus-others.ensures c.count-k.ensures c.requires in h).fit)
+write_ascending-requires c =
+    let parts = parts_of_lem c.args.set c.args.initial _ _ _ c.args.out.now c.intersection-first.ensures c.minus-others.ensures c.count-k.ensures c.requires in
+    omega (arith, parts.fit)
 
 pub slice_bounds-write_ascending-count : goal.slice_bounds-write_ascending-count
-slice_bounds-write_ascending-count c = let w = c.write_ascending in first_fits (let h : let a = c.args in Parts a.set a.initial c.intersection-first.result c.minus-others.result c.count-k.result a.out.now = parts_of_lem c.args.set c.args.initial _ _ _ c.args.out.now c.intersection-first.ensures c.minus-others.ensures c.count-k.ensures c.requires in h) w.new.out w.ensures
+slice_bounds-write_ascending-count c =
+    let parts = parts_of_lem c.args.set c.args.initial _ _ _ c.args.out.now c.intersection-first.ensures c.minus-others.ensures c.count-k.ensures c.requires in
+    let w = c.write_ascending in
+    first_fits parts w.new.out w.ensures
 
 pub slice_bounds-write_ascending-start : goal.slice_bounds-write_ascending-start
-slice_bounds-write_ascending-start c = let w = c.write_ascending in first_fits (let h : let a = c.args in Parts a.set a.initial c.intersection-first.result c.minus-others.result c.count-k.result a.out.now = parts_of_lem c.args.set c.args.initial _ _ _ c.args.out.now c.intersection-first.ensures c.minus-others.ensures c.count-k.ensures c.requires in h) w.new.out w.ensures
+slice_bounds-write_ascending-start c =
+    let parts = parts_of_lem c.args.set c.args.initial _ _ _ c.args.out.now c.intersection-first.ensures c.minus-others.ensures c.count-k.ensures c.requires in
+    let w = c.write_ascending in
+    first_fits parts w.new.out w.ensures
 
 pub write_ascending-requires-2 : goal.write_ascending-requires-2
-write_ascending-requires-2 c = let w = c.write_ascending in others_fit (let h : let a = c.args in Parts a.set a.initial c.intersection-first.result c.minus-others.result c.count-k.result a.out.now = parts_of_lem c.args.set c.args.initial _ _ _ c.args.out.now c.intersection-first.ensures c.minus-others.ensures c.count-k.ensures c.requires in h) w.new.out w.ensures
+write_ascending-requires-2 c =
+    let parts = parts_of_lem c.args.set c.args.initial _ _ _ c.args.out.now c.intersection-first.ensures c.minus-others.ensures c.count-k.ensures c.requires in
+    let w = c.write_ascending in
+    others_fit parts w.new.out w.ensures
 
 pub returns : goal.returns
 returns c =
+    let parts = parts_of_lem c.args.set c.args.initial _ _ _ c.args.out.now c.intersection-first.ensures c.minus-others.ensures c.count-k.ensures c.requires in
     let w = c.write_ascending in
     let v = c.write_ascending-2 in
-    whole (let h : let a = c.args in Parts a.set a.initial c.intersection-first.result c.minus-others.result c.count-k.result a.out.now = parts_of_lem c.args.set c.args.initial _ _ _ c.args.out.now c.intersection-first.ensures c.minus-others.ensures c.count-k.ensures c.requires in h) w.new.out w.ensures v.new.out v.ensures
+    whole parts w.new.out w.ensures v.new.out v.ensures

@@ -45,8 +45,8 @@ node_states-requires c =
     let l = c.args.table.now in
     let k = c.counts_of-c.ensures in
     let q = counted l c.requires.table_value c.counts_of-c.result k in
-    let h : c.loop-i.i < (counts_of l).nodes = omega (arith, ap (λ (y : Counts). y.nodes) k) in
-    let r = read_node l c.requires.table_value c.loop-i.i h c.nodes_part-nodes.result.now c.nodes_part-nodes.ensures c.node_at.result c.node_at.ensures in
+    let inside : c.loop-i.i < (counts_of l).nodes = omega (arith, ap (λ (y : Counts). y.nodes) k) in
+    let r = read_node l c.requires.table_value c.loop-i.i inside c.nodes_part-nodes.result.now c.nodes_part-nodes.ensures c.node_at.result c.node_at.ensures in
     record {
       n_bound = q.2;
       a_bound = (r.a_below, r.b_below);
@@ -74,14 +74,14 @@ loop-i-preserved c =
     let q = counted l c.requires.table_value c.counts_of-c.result k in
     let i = c.loop-i.i in
     let words = c.loop-i.next in
-    let h : i < (counts_of l).nodes = omega (arith, ap (λ (y : Counts). y.nodes) k) in
+    let inside : i < (counts_of l).nodes = omega (arith, ap (λ (y : Counts). y.nodes) k) in
     let x = c.node_at.result in
     let here : x ≡ node_of (drop (node_width * i) (nodes_part l)) = c.node_at.ensures ∙ ap (λ (s : List ℕ). node_of (drop (node_width * i) s)) c.nodes_part-nodes.ensures in
     let w : c.node_states.result ≡ node_word a.rows a.kept (length (table_of l).states) (states_part l) words (operator_of x) =
     c.node_states.ensures ∙ (λ j. node_word a.rows a.kept (q.0 j) (c.states_part-states.ensures j) words (operator_of x)) in (
       omega arith,
       length-set words i c.node_states.result ∙ c.loop-i.invariant.1,
-      c.loop-i.invariant.2 ∙ one l a.rows a.kept (length (table_of l).states) i h x here words c.node_states.result w,
+      c.loop-i.invariant.2 ∙ one l a.rows a.kept (length (table_of l).states) i inside x here words c.node_states.result w,
     )
 
 pub returns : goal.returns

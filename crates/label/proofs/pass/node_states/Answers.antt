@@ -34,21 +34,21 @@ pub returns-in-4 : goal.returns-in-4
 unfolding node_word
 returns-in-4 c =
     let x = c.args.x in
-    ap (λ (i : ℕ). bit_and ((let h : ℕ → ℕ = λ i. get_or c.args.words.now i 0 in h) x.a) ((let h : ℕ → ℕ = λ i. get_or c.args.words.now i 0 in h) i)) (c.second_child-right.ensures ∙ second_b x (omega (arith, c.in-4.is)))
+    ap (λ (i : ℕ). bit_and (get_or c.args.words.now x.a 0) (get_or c.args.words.now i 0)) (c.second_child-right.ensures ∙ second_b x (omega (arith, c.in-4.is)))
     ∙ sym (ap (node_word c.args.rows.now c.args.kept c.args.n c.args.states.now c.args.words.now) (of_kind x 4 c.in-4.is))
 
 pub returns-in-5 : goal.returns-in-5
 unfolding node_word
 returns-in-5 c =
     let x = c.args.x in
-    ap (λ (i : ℕ). bit_or ((let h : ℕ → ℕ = λ i. get_or c.args.words.now i 0 in h) x.a) ((let h : ℕ → ℕ = λ i. get_or c.args.words.now i 0 in h) i)) (c.second_child-right.ensures ∙ second_b x (omega (arith, c.in-5.is)))
+    ap (λ (i : ℕ). bit_or (get_or c.args.words.now x.a 0) (get_or c.args.words.now i 0)) (c.second_child-right.ensures ∙ second_b x (omega (arith, c.in-5.is)))
     ∙ sym (ap (node_word c.args.rows.now c.args.kept c.args.n c.args.states.now c.args.words.now) (of_kind x 5 c.in-5.is))
 
 pub returns-in-6 : goal.returns-in-6
 unfolding node_word
 returns-in-6 c =
     c.next_states.ensures
-    ∙ ap (λ (q : Quantifier). next_word q c.args.rows.now c.args.n ((let h : ℕ → ℕ = λ i. get_or c.args.words.now i 0 in h) c.args.x.a)) c.quantifier_of.ensures
+    ∙ ap (λ (q : Quantifier). next_word q c.args.rows.now c.args.n (get_or c.args.words.now c.args.x.a 0)) c.quantifier_of.ensures
     ∙ sym (ap (node_word c.args.rows.now c.args.kept c.args.n c.args.states.now c.args.words.now) (next_kind c.args.x (from_six c.args.x.kind (omega arith) (omega arith) (omega arith) (omega arith) (omega arith) (omega arith)) (omega arith)))
 
 pub returns-in-8 : goal.returns-in-8
@@ -59,7 +59,7 @@ returns-in-8 c =
     let family = c.family_of in
     let quantifier = c.quantifier_of-in-8 in
     c.fixpoint_states.ensures
-    ∙ (λ i. levels_word (family.ensures i) (quantifier.ensures i) a.rows.now a.n ((let h : ℕ → ℕ = λ i. get_or c.args.words.now i 0 in h) a.x.a) ((let h : ℕ → ℕ = λ i. get_or c.args.words.now i 0 in h) (second.ensures i)) a.n)
+    ∙ (λ i. levels_word (family.ensures i) (quantifier.ensures i) a.rows.now a.n (get_or a.words.now a.x.a 0) (get_or a.words.now (second.ensures i) 0) a.n)
     ∙ sym (ap (node_word c.args.rows.now c.args.kept c.args.n c.args.states.now c.args.words.now) (fixpoint_kind a.x (omega arith) (omega arith)))
 
 pub returns-in_default : goal.returns-in_default

@@ -60,5 +60,5 @@ returns c =
     let rows = c.args.rows in
     let kept = c.args.kept in
     let s = c.loop-s.s in
-    let h : length (tabulate 32 (λ s. s)) ≤ s = rw (length_tabulate {A = ℕ} 32 (λ s. s)) c.loop-s-test.false in
-    sym (c.loop-s.invariant.1 ∙ ap (all (passes rows kept)) (drop_of_length-le (tabulate 32 (λ s. s)) {i = s} h))
+    let at_end : length (tabulate 32 (λ s. s)) ≤ s = rw (length_tabulate {A = ℕ} 32 (λ s. s)) c.loop-s-test.false in
+    sym (c.loop-s.invariant.1 ∙ ap (all (passes rows kept)) (drop_of_length-le (tabulate 32 (λ s. s)) {i = s} at_end))

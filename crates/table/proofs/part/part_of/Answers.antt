@@ -17,7 +17,7 @@ pub returns-then-bytes-start-2 : goal.returns-then-bytes-start-2
 returns-then-bytes-start-2 c =
     let a = c.args in
     let l = drop a.start a.bytes.now in
-    let h : length a.bytes.now - a.start ≤ a.size = c.if-bytes-start-2.true in
+    let too_short : length a.bytes.now - a.start ≤ a.size = c.if-bytes-start-2.true in
     take_all (length a.bytes.now - a.start) l (omega (arith, length-drop a.start a.bytes.now))
     ∙ sym (take_all a.size l (omega (arith, length-drop a.start a.bytes.now)))
 
