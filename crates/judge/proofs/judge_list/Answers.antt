@@ -1,7 +1,7 @@
 -- `judge_list` meets its contract: each way out has decided the tests up to its own.
 use Prim.Native.Nat.{ℕ}
 use mathlib.Core.Path.{◌≡◌, sym, ap, ◌∙◌}
-use mathlib.Core.Bool.{Bool, not, ◌&&◌}
+use mathlib.Core.Bool.{Bool, true, false, not, ◌&&◌}
 use mathlib.Core.List.{List}
 use borrow.Author.Tests.{eq-eqb, ne_eqb}
 use lib.Dec.{eqb}
@@ -53,6 +53,20 @@ module _ (table list : List ℕ) (a : Analysis) (e : a ≡ analysis_of Any table
     root_marks : (x : ℕ) → x ≡ set_of 32 (λ t. member w t && not (member a.root t)) → eqb x 0 ≡ root_marked (table_of table) list
     root_marks x g = root_word (table_of table) (packed Any table list a e ok).table list w a.root x starts_are (root_is Any table list a e ok) g
 
+    -- with an initial state that is kept, 16 and 13 are left, and the set x decides 16
+    reached_left : eqb w 0 ≡ false → (r : ℕ) → Least a.rows w r → (x : ℕ) → x ≡ set_of 32 (λ t. member a.kept t && not (member r t))
+        → judge_verdict table list ≡ require UnreachedStep (eqb x 0) then require RootFails (root_marked (table_of table) list)
+    reached_left some r least x g =
+        left
+        ∙ then_next _ _ (ap (require NoInitialKept) (sym keeps ∙ ap not some))
+        ∙ ap (λ (b : Bool). require UnreachedStep b then require RootFails (root_marked (table_of table) list)) (sym (leaves r least x g))
+
+    -- with every kept state reached too, 13 is left, and the set y decides it
+    root_left : eqb w 0 ≡ false → (r : ℕ) → Least a.rows w r → (x : ℕ) → x ≡ set_of 32 (λ t. member a.kept t && not (member r t)) → eqb x 0 ≡ true
+        → (y : ℕ) → y ≡ set_of 32 (λ t. member w t && not (member a.root t)) → judge_verdict table list ≡ require RootFails (eqb y 0)
+    root_left some r least x g all y m =
+        reached_left some r least x g ∙ then_next _ _ (ap (require UnreachedStep) all) ∙ ap (require RootFails) (sym (root_marks y m))
+
 pub returns-in-Refused : goal.returns-in-Refused
 returns-in-Refused c =
     let t = c.args.table.now in
@@ -62,56 +76,39 @@ returns-in-Refused c =
 
 pub returns-then-starts-eq0 : goal.returns-then-starts-eq0
 returns-then-starts-eq0 c =
-    let r = (let h : let a = c.args in (judge_verdict a.table.now a.list.now ≡ last_tests (table_of a.table.now) a.list.now) × (not (eqb c.intersection-starts.result 0) ≡ keeps_initial (table_of a.table.now) a.list.now) = let A = c.analyse-a in
-    let ok = c.in_default.is in
-    (left _ _ A.result A.ensures ok, keeps _ _ A.result A.ensures ok c.intersection-starts.result c.intersection-starts.ensures) in h) in
-    let none = sym r.1 ∙ ap not (eq-eqb c.intersection-starts.result 0 c.if-starts-eq0.true) in
+    let A = c.analyse-a in
+    let starts = c.intersection-starts in
+    let none = sym (keeps _ _ A.result A.ensures c.in_default.is starts.result starts.ensures) ∙ ap not (eq-eqb starts.result 0 c.if-starts-eq0.true) in
     let refuses = ap (require NoInitialKept) none in
-    sym (r.0 ∙ then_refused _ _ NoInitialKept refuses ∙ refuses)
+    sym (left _ _ A.result A.ensures c.in_default.is ∙ then_refused _ _ NoInitialKept refuses ∙ refuses)
 
 pub returns-then-minus-ne0 : goal.returns-then-minus-ne0
 returns-then-minus-ne0 c =
-    let refuses = ap (require UnreachedStep) (ne_eqb c.minus.result 0 c.if-minus-ne0.true) in
-    sym ((let h : let a = c.args in judge_verdict a.table.now a.list.now ≡ require UnreachedStep (eqb c.minus.result 0) then require RootFails (root_marked (table_of a.table.now) a.list.now) = let a = c.args in
     let A = c.analyse-a in
-    let ok = c.in_default.is in
-    let r = (let h : let a = c.args in (judge_verdict a.table.now a.list.now ≡ last_tests (table_of a.table.now) a.list.now) × (not (eqb c.intersection-starts.result 0) ≡ keeps_initial (table_of a.table.now) a.list.now) = let A = c.analyse-a in
-    let ok = c.in_default.is in
-    (left _ _ A.result A.ensures ok, keeps _ _ A.result A.ensures ok c.intersection-starts.result c.intersection-starts.ensures) in h) in
-    let some = sym r.1 ∙ ap not (ne_eqb c.intersection-starts.result 0 c.if-starts-eq0.false) in
-    let all = leaves _ _ A.result A.ensures ok c.intersection-starts.result c.intersection-starts.ensures c.reached_states-reached.result c.reached_states-reached.ensures c.minus.result c.minus.ensures in
-    r.0 ∙ then_next _ _ (ap (require NoInitialKept) some) ∙ ap (λ (b : Bool). require UnreachedStep b then require RootFails (root_marked (table_of a.table.now) a.list.now)) (sym all) in h) ∙ then_refused _ _ UnreachedStep refuses ∙ refuses)
+    let starts = c.intersection-starts in
+    let reached = c.reached_states-reached in
+    let refuses = ap (require UnreachedStep) (ne_eqb c.minus.result 0 c.if-minus-ne0.true) in
+    sym (
+    reached_left _ _ A.result A.ensures c.in_default.is starts.result starts.ensures (ne_eqb starts.result 0 c.if-starts-eq0.false) reached.result reached.ensures c.minus.result c.minus.ensures
+    ∙ then_refused _ _ UnreachedStep refuses ∙ refuses
+    )
 
 pub returns-then-minus-ne0-2 : goal.returns-then-minus-ne0-2
-returns-then-minus-ne0-2 c = sym ((let h : let a = c.args in judge_verdict a.table.now a.list.now ≡ require RootFails (eqb c.minus-2.result 0) = let i = c.before.before.before.before.before.before in
+returns-then-minus-ne0-2 c =
     let A = c.analyse-a in
-    let ok = c.in_default.is in
-    let all = eq-eqb c.minus.result 0 c.if-minus-ne0.false in
-    let marks = root_marks _ _ A.result A.ensures ok c.intersection-starts.result c.intersection-starts.ensures c.minus-2.result c.minus-2.ensures in
-    (let h : let a = c.args in judge_verdict a.table.now a.list.now ≡ require UnreachedStep (eqb c.minus.result 0) then require RootFails (root_marked (table_of a.table.now) a.list.now) = let a = c.args in
-    let A = c.analyse-a in
-    let ok = c.in_default.is in
-    let r = (let h : let a = c.args in (judge_verdict a.table.now a.list.now ≡ last_tests (table_of a.table.now) a.list.now) × (not (eqb c.intersection-starts.result 0) ≡ keeps_initial (table_of a.table.now) a.list.now) = let A = c.analyse-a in
-    let ok = c.in_default.is in
-    (left _ _ A.result A.ensures ok, keeps _ _ A.result A.ensures ok c.intersection-starts.result c.intersection-starts.ensures) in h) in
-    let some = sym r.1 ∙ ap not (ne_eqb c.intersection-starts.result 0 c.if-starts-eq0.false) in
-    let all = leaves _ _ A.result A.ensures ok c.intersection-starts.result c.intersection-starts.ensures c.reached_states-reached.result c.reached_states-reached.ensures c.minus.result c.minus.ensures in
-    r.0 ∙ then_next _ _ (ap (require NoInitialKept) some) ∙ ap (λ (b : Bool). require UnreachedStep b then require RootFails (root_marked (table_of a.table.now) a.list.now)) (sym all) in h) ∙ then_next _ _ (ap (require UnreachedStep) all) ∙ ap (require RootFails) (sym marks) in h) ∙ ap (require RootFails) (ne_eqb c.minus-2.result 0 c.if-minus-ne0-2.true))
+    let starts = c.intersection-starts in
+    let reached = c.reached_states-reached in
+    let root =
+    root_left _ _ A.result A.ensures c.in_default.is starts.result starts.ensures (ne_eqb starts.result 0 c.if-starts-eq0.false)
+    reached.result reached.ensures c.minus.result c.minus.ensures (eq-eqb c.minus.result 0 c.if-minus-ne0.false) c.minus-2.result c.minus-2.ensures in
+    sym (root ∙ ap (require RootFails) (ne_eqb c.minus-2.result 0 c.if-minus-ne0-2.true))
 
 pub returns : goal.returns
 returns c =
-    c.in_default.is
-    ∙ sym ((let h : let a = c.args in judge_verdict a.table.now a.list.now ≡ require RootFails (eqb c.minus-2.result 0) = let i = c.before.before.before.before.before.before in
     let A = c.analyse-a in
-    let ok = c.in_default.is in
-    let all = eq-eqb c.minus.result 0 c.if-minus-ne0.false in
-    let marks = root_marks _ _ A.result A.ensures ok c.intersection-starts.result c.intersection-starts.ensures c.minus-2.result c.minus-2.ensures in
-    (let h : let a = c.args in judge_verdict a.table.now a.list.now ≡ require UnreachedStep (eqb c.minus.result 0) then require RootFails (root_marked (table_of a.table.now) a.list.now) = let a = c.args in
-    let A = c.analyse-a in
-    let ok = c.in_default.is in
-    let r = (let h : let a = c.args in (judge_verdict a.table.now a.list.now ≡ last_tests (table_of a.table.now) a.list.now) × (not (eqb c.intersection-starts.result 0) ≡ keeps_initial (table_of a.table.now) a.list.now) = let A = c.analyse-a in
-    let ok = c.in_default.is in
-    (left _ _ A.result A.ensures ok, keeps _ _ A.result A.ensures ok c.intersection-starts.result c.intersection-starts.ensures) in h) in
-    let some = sym r.1 ∙ ap not (ne_eqb c.intersection-starts.result 0 c.if-starts-eq0.false) in
-    let all = leaves _ _ A.result A.ensures ok c.intersection-starts.result c.intersection-starts.ensures c.reached_states-reached.result c.reached_states-reached.ensures c.minus.result c.minus.ensures in
-    r.0 ∙ then_next _ _ (ap (require NoInitialKept) some) ∙ ap (λ (b : Bool). require UnreachedStep b then require RootFails (root_marked (table_of a.table.now) a.list.now)) (sym all) in h) ∙ then_next _ _ (ap (require UnreachedStep) all) ∙ ap (require RootFails) (sym marks) in h) ∙ ap (require RootFails) (eq-eqb c.minus-2.result 0 c.if-minus-ne0-2.false))
+    let starts = c.intersection-starts in
+    let reached = c.reached_states-reached in
+    let root =
+    root_left _ _ A.result A.ensures c.in_default.is starts.result starts.ensures (ne_eqb starts.result 0 c.if-starts-eq0.false)
+    reached.result reached.ensures c.minus.result c.minus.ensures (eq-eqb c.minus.result 0 c.if-minus-ne0.false) c.minus-2.result c.minus-2.ensures in
+    c.in_default.is ∙ sym (root ∙ ap (require RootFails) (eq-eqb c.minus-2.result 0 c.if-minus-ne0-2.false))
