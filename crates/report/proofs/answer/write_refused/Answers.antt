@@ -2,8 +2,10 @@
 use Prim.Native.Nat.{ℕ}
 use mathlib.Core.Path.{ap}
 use mathlib.Core.List.{List, [], ◌∷◌}
+use Rattle.table.specs.declared.refusal.Refusal.{Refusal}
 use Rattle.table.specs.Verdict.{refusal_number}
 use Rattle.sheet.specs.Form.{ascii, ended, line}
+use Rattle.render.specs.Render.{Stored}
 use Rattle.render.proofs.Left.{Left, left_all, left_room, left_room_all, left_next, left_end, room_as, stored_as}
 use Rattle.report.specs.Report.{refused}
 use Rattle.report.proofs.answer.write_refused.Goals as goal
@@ -11,24 +13,22 @@ use Rattle.report.proofs.answer.write_refused.Goals as goal
 abbrev words : List ℕ
 words = ascii "answer number\nrefused "
 
--- what is left behind the words
-worded : (k : goal.After-put_bytes-at)
-    → let s = k.before in
-    Left k.args.out.now 0 (refused k.args.refusal) k.put_bytes-at.new.text k.put_bytes-at.result (ended 10 (refusal_number k.args.refusal))
+-- what is left of the lines of the refusal r, stored in the text t, behind the words
+worded : (t : List ℕ) (r : Refusal) {after : List ℕ} {behind : ℕ} → Stored t 0 words after behind → Left t 0 (refused r) after behind (ended 10 (refusal_number r))
 unfolding line
-worded k =
-    left_next _ _ _ _ _ words (ended 10 (refusal_number k.args.refusal)) (left_all k.args.out.now 0 (refused k.args.refusal)) _ _ k.put_bytes-at.ensures
+worded t r s = left_next _ _ _ _ _ words (ended 10 (refusal_number r)) (left_all t 0 (refused r)) _ _ s
 
 pub put_bytes-at-requires : goal.put_bytes-at-requires
 put_bytes-at-requires c =
-    left_room _ _ _ _ _ words (line (refusal_number c.args.refusal ∷ [])) (left_all c.args.out.now 0 (refused c.args.refusal)) c.pre
+    let r = c.args.refusal in
+    left_room _ _ _ _ _ words (line (refusal_number r ∷ [])) (left_all c.args.out.now 0 (refused r)) c.requires
 
 pub put_field-requires : goal.put_field-requires
 put_field-requires c =
-    let k = c.before.before.before in
-    room_as c.put_bytes-at.new.text c.put_bytes-at.result _ _ (ap (ended 10) c.refusal_number-number.ensures) (left_room_all _ _ _ _ _ _ (worded k) c.requires)
+    let k1 = worded c.args.out.now c.args.refusal c.put_bytes-at.ensures in
+    room_as _ _ _ _ (ap (ended 10) c.refusal_number-number.ensures) (left_room_all _ _ _ _ _ (ended 10 (refusal_number c.args.refusal)) k1 c.requires)
 
 pub returns : goal.returns
 returns c =
-    let k = c.before.before.before.before.before.before in
-    left_end _ _ _ _ _ _ (worded k) _ _ (stored_as _ _ _ _ _ _ (ap (ended 10) c.refusal_number-number.ensures) c.put_field.ensures)
+    let k1 = worded c.args.out.now c.args.refusal c.put_bytes-at.ensures in
+    left_end _ _ _ _ _ (ended 10 (refusal_number c.args.refusal)) k1 _ _ (stored_as _ _ _ _ _ _ (ap (ended 10) c.refusal_number-number.ensures) c.put_field.ensures)
