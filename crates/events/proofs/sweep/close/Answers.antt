@@ -58,7 +58,7 @@ returns-then-not-r c =
     let v = c.sweep_once-r in
     let w = v.ensures in
     let f = c.if-r.false in
-    let calm = not-true _ c.if-not-r.true in
+    let calm = not-true v.result.changed c.if-not-r.true in
     let same = w.advance.unchanged calm in
     let rests : RestBut T 0 (knowledge T (memory v.new.rows v.new.words)) =
     swept_rest T wf v.new.looks (memory v.new.rows v.new.words) (w.done calm f) (w.watched f (founded c.requires.founded l.invariant.0) l.invariant.2) in
@@ -75,7 +75,7 @@ loop-net-smaller c =
     let l = c.loop-net in
     let v = c.sweep_once-r in
     let did = c.sweep_once-r.ensures.advance in
-    let less : total (memory l.rows l.words) < total (memory v.new.rows v.new.words) = did.more (not-false _ c.if-not-r.false) in
+    let less : total (memory l.rows l.words) < total (memory v.new.rows v.new.words) = did.more (not-false v.result.changed c.if-not-r.false) in
     let most = total_bound {T = table_of a.table.now} (memory v.new.rows v.new.words) did.sized in
     let size : length v.new.rows + length v.new.words ≡ length a.rows.now + length a.words.now =
     omega (arith, did.sized.rows_size, c.requires.sized.rows_size, did.same_words_length, l.invariant.0.same_words_length) in

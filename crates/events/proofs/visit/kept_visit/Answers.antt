@@ -27,9 +27,6 @@ kept_states-report-requires c =
       rows_len = (p.rows_len.0, word_inside (table_of a.table.now) (get_or a.looks.now 32 0) c.below.result (c.below.ensures ∙ ap (λ (n : ℕ). set_of 32 (λ t. ltb t n)) (states_are p.setting)));
     }
 
-pub bounds-looks-32-then-is_quiet : goal.bounds-looks-32-then-is_quiet
-bounds-looks-32-then-is_quiet c = omega (arith, c.requires.rows_len.1)
-
 pub returns-then-is_quiet : goal.returns-then-is_quiet
 returns-then-is_quiet c =
     let a = c.args in
