@@ -7,12 +7,27 @@ use borrow.Author.Count.{below_more}
 use lib.ListN.{length, get_or, drop, set, length-set}
 use lib.Seq.{get_or-set_same, get_or-set_other}
 use Rattle.table.specs.declared.counts.Counts.{Counts}
-use Rattle.table.specs.Table.{table_of, node_of, node_width, node_at}
+use Rattle.table.specs.declared.record.Node.{Node}
+use mathlib.Core.Bool.{false}
+use Rattle.table.specs.Table.{table_of, nodes_part, node_of, node_width, node_at}
 use Rattle.table.proofs.Accepted.{accepted}
-use Rattle.ctl.specs.Rule.{operator_of}
+use Rattle.ctl.specs.Rule.{constant, operators, operator_of}
 use Rattle.closure.specs.Knowledge.{level_size, level_sizes, level_base}
 use Rattle.closure.proofs.LevelBases.{node_anywhere, base_on, past, size_most}
 use Rattle.closure.proofs.bases.level_bases.Goals as goal
+
+-- the node that is read at place i is node i of the table, so that what `level_size` gives for its kind is the size of node i
+size : (table nodes : List ℕ) (i n : ℕ) → nodes ≡ nodes_part table → n ≡ length (table_of table).states → (x : Node) → x ≡ node_of (drop (node_width * i) nodes)
+    → (words : ℕ) → ((a b : ℕ) → words ≡ level_size n (get_or (operators a b) x.kind (constant false)))
+    → words ≡ level_size (length (table_of table).states) (operator_of (node_at (table_of table) i))
+size table nodes i n part states x read words given =
+    let here : x ≡ node_at (table_of table) i = read ∙ ap (λ (l : List ℕ). node_of (drop (node_width * i) l)) part ∙ node_anywhere table i in
+    given x.a x.b ∙ (λ j. level_size (states j) (operator_of (here j)))
+
+-- and that is at most 62
+small : (table : List ℕ) (i words : ℕ) → length (table_of table).states ≤ 32
+    → words ≡ level_size (length (table_of table).states) (operator_of (node_at (table_of table) i)) → words ≤ 62
+small table i words few e = omega (arith, e, size_most (length (table_of table).states) few (operator_of (node_at (table_of table) i)))
 
 pub loop-i-init : goal.loop-i-init
 unfolding level_sizes
@@ -34,74 +49,32 @@ pub level_size-total-requires : goal.level_size-total-requires
 level_size-total-requires c = (c.loop-i.invariant.0.3, c.loop-i.invariant.0.4)
 
 pub overflow_add-total : goal.overflow_add-total
-overflow_add-total c = omega (
-  arith,
-  (let h : c.level_size-total.result ≡ level_size (length (table_of c.args.table.now).states) (operator_of (node_at (table_of c.args.table.now) c.loop-i.i)) = let t = c.args.table.now in
-      let loop = c.loop-i in
-      let x = c.node_at-x.result in
-      let here : x ≡ node_at (table_of t) loop.i =
-      c.node_at-x.ensures ∙ ap (λ (l : List ℕ). node_of (drop (node_width * loop.i) l)) loop.invariant.1 ∙ node_anywhere t loop.i in
-      c.level_size-total.ensures x.a x.b ∙ (λ j. level_size (loop.invariant.0.2 j) (operator_of (here j))) in h),
-  (let h : c.level_size-total.result ≤ 62 = let t = c.args.table.now in
-      let loop = c.loop-i in
-      omega (
-        arith,
-        (let h : c.level_size-total.result ≡ level_size (length (table_of c.args.table.now).states) (operator_of (node_at (table_of c.args.table.now) c.loop-i.i)) = let t = c.args.table.now in
-            let loop = c.loop-i in
-            let x = c.node_at-x.result in
-            let here : x ≡ node_at (table_of t) loop.i =
-            c.node_at-x.ensures ∙ ap (λ (l : List ℕ). node_of (drop (node_width * loop.i) l)) loop.invariant.1 ∙ node_anywhere t loop.i in
-            c.level_size-total.ensures x.a x.b ∙ (λ j. level_size (loop.invariant.0.2 j) (operator_of (here j))) in h),
-        size_most (length (table_of t).states) (omega (arith, loop.invariant.0)) (operator_of (node_at (table_of t) loop.i)),
-      ) in h),
-)
+overflow_add-total c =
+    let t = c.args.table.now in
+    let loop = c.loop-i in
+    let own = size t _ loop.i _ loop.invariant.1 loop.invariant.0.2 c.node_at-x.result c.node_at-x.ensures c.level_size-total.result c.level_size-total.ensures in
+    let few = small t loop.i c.level_size-total.result (omega (arith, loop.invariant.0)) own in
+    omega (arith, own, few)
 
 pub loop-i-smaller : goal.loop-i-smaller
 loop-i-smaller c = omega arith
 
 pub loop-i-preserved : goal.loop-i-preserved
 loop-i-preserved c =
-    let T = table_of c.args.table.now in
+    let t = c.args.table.now in
+    let T = table_of t in
     let loop = c.loop-i in
     let i = loop.i in
     let at = set loop.at i loop.total in
     let inside : i < length loop.at = omega (arith, loop.invariant.2) in
     let here : get_or at i 0 ≡ level_base T i = get_or-set_same loop.at i loop.total 0 inside ∙ loop.invariant.3 in
-    let before : (k : ℕ) → k < i → get_or at k 0 ≡ level_base T k = λ k h. get_or-set_other loop.at i k loop.total 0 (λ e. omega arith) ∙ loop.invariant.4 k h in (
-      (
-        omega arith,
-        omega (
-          arith,
-          (let h : c.level_size-total.result ≤ 62 = let t = c.args.table.now in
-              let loop = c.loop-i in
-              omega (
-                arith,
-                (let h : c.level_size-total.result ≡ level_size (length (table_of c.args.table.now).states) (operator_of (node_at (table_of c.args.table.now) c.loop-i.i)) = let t = c.args.table.now in
-                    let loop = c.loop-i in
-                    let x = c.node_at-x.result in
-                    let here : x ≡ node_at (table_of t) loop.i =
-                    c.node_at-x.ensures ∙ ap (λ (l : List ℕ). node_of (drop (node_width * loop.i) l)) loop.invariant.1 ∙ node_anywhere t loop.i in
-                    c.level_size-total.ensures x.a x.b ∙ (λ j. level_size (loop.invariant.0.2 j) (operator_of (here j))) in h),
-                size_most (length (table_of t).states) (omega (arith, loop.invariant.0)) (operator_of (node_at (table_of t) loop.i)),
-              ) in h),
-        ),
-        loop.invariant.0.2,
-        loop.invariant.0.3,
-        loop.invariant.0.4,
-      ),
+    let before : (k : ℕ) → k < i → get_or at k 0 ≡ level_base T k = λ k h. get_or-set_other loop.at i k loop.total 0 (λ e. omega arith) ∙ loop.invariant.4 k h in
+    let own = size t _ loop.i _ loop.invariant.1 loop.invariant.0.2 c.node_at-x.result c.node_at-x.ensures c.level_size-total.result c.level_size-total.ensures in
+    let few = small t loop.i c.level_size-total.result (omega (arith, loop.invariant.0)) own in (
+      (omega arith, omega (arith, few), loop.invariant.0.2, loop.invariant.0.3, loop.invariant.0.4),
       loop.invariant.1,
       length-set loop.at i _ ∙ loop.invariant.2,
-      omega (
-        arith,
-        (let h : c.level_size-total.result ≡ level_size (length (table_of c.args.table.now).states) (operator_of (node_at (table_of c.args.table.now) c.loop-i.i)) = let t = c.args.table.now in
-            let loop = c.loop-i in
-            let x = c.node_at-x.result in
-            let here : x ≡ node_at (table_of t) loop.i =
-            c.node_at-x.ensures ∙ ap (λ (l : List ℕ). node_of (drop (node_width * loop.i) l)) loop.invariant.1 ∙ node_anywhere t loop.i in
-            c.level_size-total.ensures x.a x.b ∙ (λ j. level_size (loop.invariant.0.2 j) (operator_of (here j))) in h),
-        loop.invariant.3,
-        base_on T i,
-      ),
+      omega (arith, own, loop.invariant.3, base_on T i),
       below_more _ i before here,
     )
 

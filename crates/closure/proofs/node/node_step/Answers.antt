@@ -13,7 +13,7 @@ use Rattle.table.specs.StateSets.{labelled_word}
 use Rattle.ctl.specs.Rule.{every, some, Operator, constant, operator_of}
 use Rattle.ctl.proofs.OfKind.{of_kind, past_kinds, from_six, second_b, second_below, next_kind, fixpoint_kind}
 use Rattle.rows.specs.Rules.{constant_row}
-use Rattle.propagate.specs.Memory.{node_place, memory}
+use Rattle.propagate.specs.Memory.{Memory, node_place, memory}
 use Rattle.closure.specs.Dual.{is_every}
 use Rattle.closure.specs.MemoryRules.{node_step}
 use Rattle.propagate.specs.Level.{fixpoint_at, levels_from}
@@ -34,6 +34,11 @@ no-states n = empty n _ (set_of-lt n _) (λ s h. member-set_of n _ s ∙ and-fal
 is_even : (b : Bool) → b ≡ is_every (cond b every some)
 is_even true = refl
 is_even false = refl
+
+-- a node takes the step of its operator, however that is written
+same_operator : (table targets bases : List ℕ) (n look : ℕ) (down : Bool) (i : ℕ) (M : Memory) {o p : Operator} → o ≡ p
+    → node_step table targets bases n look down i o M ≡ node_step table targets bases n look down i p M
+same_operator table targets bases n look down i M e = ap (λ (o : Operator). node_step table targets bases n look down i o M) e
 
 pub pair_step-requires : goal.pair_step-requires
 pair_step-requires c =
@@ -59,20 +64,20 @@ unfolding node_step
 returns-in-1 c =
     let a = c.args in
     λ bases e. added a.rows.now (node_place a.i) (c.constant_row.ensures ∙ ap (constant_row a.n) (c.below.ensures ∙ all-states a.n c.requires.n_bound.0)) c.add_node.ensures.value c.add_node.ensures.rows_after a.words.now
-    ∙ sym (ap (λ (o : Operator). node_step c.args.table.now c.args.targets.now bases c.args.n c.args.look c.args.down c.args.i o (memory c.args.rows.now c.args.words.now)) (of_kind a.x 1 c.in-1.is))
+    ∙ sym (same_operator c.args.table.now c.args.targets.now bases c.args.n c.args.look c.args.down c.args.i (memory c.args.rows.now c.args.words.now) (of_kind a.x 1 c.in-1.is))
 
 pub returns-in-2 : goal.returns-in-2
 unfolding node_step
 returns-in-2 c =
     let a = c.args in
     λ bases e. added a.rows.now (node_place a.i) (c.constant_row-in-2.ensures ∙ ap (constant_row a.n) (c.labelled_states-set.ensures ∙ ap (λ (l : List ℕ). labelled_word l a.n a.x.a) c.states_part.ensures)) c.add_node-in-2.ensures.value c.add_node-in-2.ensures.rows_after a.words.now
-    ∙ sym (ap (λ (o : Operator). node_step c.args.table.now c.args.targets.now bases c.args.n c.args.look c.args.down c.args.i o (memory c.args.rows.now c.args.words.now)) (of_kind a.x 2 c.in-2.is))
+    ∙ sym (same_operator c.args.table.now c.args.targets.now bases c.args.n c.args.look c.args.down c.args.i (memory c.args.rows.now c.args.words.now) (of_kind a.x 2 c.in-2.is))
 
 pub returns-in-3 : goal.returns-in-3
 unfolding node_step
 returns-in-3 c =
     λ bases e. c.same_step.ensures c.args.words.now
-    ∙ sym (ap (λ (o : Operator). node_step c.args.table.now c.args.targets.now bases c.args.n c.args.look c.args.down c.args.i o (memory c.args.rows.now c.args.words.now)) (of_kind c.args.x 3 c.in-3.is))
+    ∙ sym (same_operator c.args.table.now c.args.targets.now bases c.args.n c.args.look c.args.down c.args.i (memory c.args.rows.now c.args.words.now) (of_kind c.args.x 3 c.in-3.is))
 
 pub returns-in-4 : goal.returns-in-4
 unfolding node_step
@@ -81,7 +86,7 @@ returns-in-4 c =
     λ bases e. c.pair_step.ensures c.args.words.now
     ∙ ap (λ (b : ℕ). cond (eqb c.args.x.a b) (same_step c.args.i true c.args.x.a (memory c.args.rows.now c.args.words.now))
     (both_step c.args.i true c.args.x.a b (memory c.args.rows.now c.args.words.now))) (c.second_child-b.ensures ∙ second_b c.args.x (omega (arith, kind)))
-    ∙ sym (ap (λ (o : Operator). node_step c.args.table.now c.args.targets.now bases c.args.n c.args.look c.args.down c.args.i o (memory c.args.rows.now c.args.words.now)) (of_kind c.args.x 4 kind))
+    ∙ sym (same_operator c.args.table.now c.args.targets.now bases c.args.n c.args.look c.args.down c.args.i (memory c.args.rows.now c.args.words.now) (of_kind c.args.x 4 kind))
 
 pub returns-in-5 : goal.returns-in-5
 unfolding node_step
@@ -90,7 +95,7 @@ returns-in-5 c =
     λ bases e. c.pair_step-in-5.ensures c.args.words.now
     ∙ ap (λ (b : ℕ). cond (eqb c.args.x.a b) (same_step c.args.i true c.args.x.a (memory c.args.rows.now c.args.words.now))
     (both_step c.args.i false c.args.x.a b (memory c.args.rows.now c.args.words.now))) (c.second_child-b.ensures ∙ second_b c.args.x (omega (arith, kind)))
-    ∙ sym (ap (λ (o : Operator). node_step c.args.table.now c.args.targets.now bases c.args.n c.args.look c.args.down c.args.i o (memory c.args.rows.now c.args.words.now)) (of_kind c.args.x 5 kind))
+    ∙ sym (same_operator c.args.table.now c.args.targets.now bases c.args.n c.args.look c.args.down c.args.i (memory c.args.rows.now c.args.words.now) (of_kind c.args.x 5 kind))
 
 pub returns-in-6 : goal.returns-in-6
 unfolding node_step
@@ -98,7 +103,7 @@ returns-in-6 c =
     let a = c.args in
     λ bases e. c.next_step.ensures a.words.now
     ∙ ap (λ (e : Bool). next_step c.args.targets.now c.args.n c.args.look c.args.i e c.args.x.a (memory c.args.rows.now c.args.words.now)) (is_even (eqb (a.x.kind % 2) 0))
-    ∙ sym (ap (λ (o : Operator). node_step c.args.table.now c.args.targets.now bases c.args.n c.args.look c.args.down c.args.i o (memory c.args.rows.now c.args.words.now)) (next_kind a.x (from_six a.x.kind (omega arith) (omega arith) (omega arith) (omega arith) (omega arith) (omega arith)) (omega arith)))
+    ∙ sym (same_operator c.args.table.now c.args.targets.now bases c.args.n c.args.look c.args.down c.args.i (memory c.args.rows.now c.args.words.now) (next_kind a.x (from_six a.x.kind (omega arith) (omega arith) (omega arith) (omega arith) (omega arith) (omega arith)) (omega arith)))
 
 pub returns-in-8 : goal.returns-in-8
 unfolding node_step
@@ -108,7 +113,7 @@ returns-in-8 c =
     let second = c.second_child-b in
     λ bases e. c.fixpoint_step.ensures
     ∙ (λ j. (levels_from c.args.targets.now c.args.n (fixpoint_at (family.ensures j) c.args.i (is_even (eqb (x.kind % 2) 0) j) c.args.x.a (second.ensures j) (sym e j)) c.args.down c.args.look c.args.n (memory c.args.rows.now c.args.words.now)).done)
-    ∙ sym (ap (λ (o : Operator). node_step c.args.table.now c.args.targets.now bases c.args.n c.args.look c.args.down c.args.i o (memory c.args.rows.now c.args.words.now)) (fixpoint_kind x (omega arith) (omega arith)))
+    ∙ sym (same_operator c.args.table.now c.args.targets.now bases c.args.n c.args.look c.args.down c.args.i (memory c.args.rows.now c.args.words.now) (fixpoint_kind x (omega arith) (omega arith)))
 
 -- a kind that no arm names is 0, or past the last
 pub returns-in_default : goal.returns-in_default
@@ -122,4 +127,4 @@ returns-in_default c =
     ]
     in
     λ bases e. added a.rows.now (node_place a.i) (c.constant_row-in_default.ensures ∙ ap (constant_row a.n) (sym (no-states a.n))) c.add_node-in_default.ensures.value c.add_node-in_default.ensures.rows_after a.words.now
-    ∙ sym (ap (λ (o : Operator). node_step c.args.table.now c.args.targets.now bases c.args.n c.args.look c.args.down c.args.i o (memory c.args.rows.now c.args.words.now)) operator)
+    ∙ sym (same_operator c.args.table.now c.args.targets.now bases c.args.n c.args.look c.args.down c.args.i (memory c.args.rows.now c.args.words.now) operator)

@@ -24,9 +24,9 @@ returns-then-report c =
     let l = c.loop-left in
     let s = c.lowest-s.result in
     let step = c.kept_step in
-    let h : s < 32 = next_below _ l.left _ l.invariant.0 c.loop-left-test.true c.lowest-s.ensures in
+    let small : s < 32 = next_below _ l.left _ l.invariant.0 c.loop-left-test.true c.lowest-s.ensures in
     let further : KeptOn (table_of a.table.now) a.look (others l.left s) a.rows.now step.new.rows c.both-report.result =
-    kept_next (table_of a.table.now) a.look (wellformed p.setting) a.targets.now l.left s h (p.setting.targets_at s h)
+    kept_next (table_of a.table.now) a.look (wellformed p.setting) a.targets.now l.left s small (p.setting.targets_at s small)
     (p.rows_len.1 s (next_inside a.look l.left s l.invariant.0 c.loop-left-test.true c.lowest-s.ensures))
     a.rows.now l.rows step.new.rows l.report step.result c.both-report.result l.invariant.2 step.ensures c.both-report.ensures in
     λ w sized. kept_failed _ _ _ _ _ _ c.if-report.true (further w sized)
@@ -45,9 +45,9 @@ loop-left-preserved c =
     let next = c.lowest-s in
     let s = next.result in
     let step = c.kept_step in
-    let h : s < 32 = next_below _ l.left _ l.invariant.0 c.loop-left-test.true next.ensures in
+    let small : s < 32 = next_below _ l.left _ l.invariant.0 c.loop-left-test.true next.ensures in
     let further : KeptOn (table_of a.table.now) a.look (others l.left s) a.rows.now step.new.rows c.both-report.result =
-    kept_next (table_of a.table.now) a.look (wellformed p.setting) a.targets.now l.left s h (p.setting.targets_at s h)
+    kept_next (table_of a.table.now) a.look (wellformed p.setting) a.targets.now l.left s small (p.setting.targets_at s small)
     (p.rows_len.1 s (next_inside a.look l.left s l.invariant.0 c.loop-left-test.true next.ensures))
     a.rows.now l.rows step.new.rows l.report step.result c.both-report.result l.invariant.2 step.ensures c.both-report.ensures in (
       subst (Left a.look) (sym c.remove-left.ensures) (left_next a.look l.left s l.invariant.0 c.loop-left-test.true next.ensures),
