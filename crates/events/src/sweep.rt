@@ -87,7 +87,7 @@ pub fn close(
     requires founded { Founded (table_of table.now) (memory rows.old words.old) }
     requires rest_but { «fresh» ≡ false → RestBut (table_of table.now) changed (knowledge (table_of table.now) (memory rows.old words.old)) }
     ensures closed { Closed (table_of table.now) result (memory rows.old words.old) (memory rows.new words.new) }
-    ensures rest_but_2 { result.fails ≡ false → RestBut (table_of table.now) 0 (knowledge (table_of table.now) (memory rows.new words.new)) }
+    ensures resting { result.fails ≡ false → RestBut (table_of table.now) 0 (knowledge (table_of table.now) (memory rows.new words.new)) }
 {
     let mut looks = first_looks(readers, fresh, changed);
     let mut down = false;

@@ -15,12 +15,12 @@ use search::Outcome;
 // What the search is told beside the bytes is worked out once. It is lent the first V words, and uses what room they leave beside the levels.
 pub fn run(table: &[u8], cap: u64, list: &mut [u8], words: &mut [u32], cells: usize) -> Answer
     requires table_value { table_verdict table.now ≡ Accepted }
-    requires table_in_bounds { length (table_of table.now).steps ≤ length list.old }
-    requires table_in_bounds_2 { variable_formula (table_of table.now) ≤ length words.old }
+    requires list_room { length (table_of table.now).steps ≤ length list.old }
+    requires words_room { variable_formula (table_of table.now) ≤ length words.old }
     requires cells_value { cells ≡ variable_formula (table_of table.now) }
     ensures value { result ≡ answer_of (search_under (table_of table.now) cap) }
     ensures list_after { list.new ≡ written_after (table_of table.now) (search_under (table_of table.now) cap) list.old }
-    ensures words_unchanged { drop (variable_formula (table_of table.now)) words.new ≡ drop (variable_formula (table_of table.now)) words.old }
+    ensures words_past_v { drop (variable_formula (table_of table.now)) words.new ≡ drop (variable_formula (table_of table.now)) words.old }
 {
     let net = net_of(table);
     let targets = table::target_sets(table);

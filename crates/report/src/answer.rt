@@ -21,7 +21,7 @@ pub fn write_refused(out: &mut [u8], refusal: Refusal) -> usize
 }
 
 fn write_found(table: &[u8], price: u32, choices: u64, list: &[u8], out: &mut [u8]) -> usize
-    requires table_in_bounds { (counts_of table.now).steps ≤ length list.now }
+    requires list_room { (counts_of table.now).steps ≤ length list.now }
     requires room { Room out.old 0 (found_text table.now price choices list.now) }
     ensures { Stored out.old 0 (found_text table.now price choices list.now) out.new result }
 {
@@ -32,7 +32,7 @@ fn write_found(table: &[u8], price: u32, choices: u64, list: &[u8], out: &mut [u
 }
 
 pub fn write_result(table: &[u8], answer: Answer, list: &[u8], out: &mut [u8]) -> usize
-    requires table_in_bounds { (counts_of table.now).steps ≤ length list.now }
+    requires list_room { (counts_of table.now).steps ≤ length list.now }
     requires room { Room out.old 0 (answer_text table.now answer list.now) }
     ensures { Stored out.old 0 (answer_text table.now answer list.now) out.new result }
 {

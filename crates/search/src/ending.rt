@@ -23,7 +23,7 @@ fn copy_front(find: &[u8], count: usize, list: &mut [u8])
 // The cheapest find is written, where there is one and the cap was not reached.
 pub fn finish(table: &[u8], walked: Walked, settled: u32, find: &[u8], list: &mut [u8]) -> Outcome
     requires table_value { table_verdict table.now ≡ Accepted }
-    requires table_in_bounds { (length (table_of table.now).steps ≤ length find.now) × (length (table_of table.now).steps ≤ length list.old) }
+    requires room { (length (table_of table.now).steps ≤ length find.now) × (length (table_of table.now).steps ≤ length list.old) }
     ensures value { result ≡ finished settled walked }
     ensures list_after { list.new ≡ written (length (table_of table.now).steps) walked find.now list.old }
 {

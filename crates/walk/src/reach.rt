@@ -24,7 +24,7 @@ pub enum Reached {
 // its list is written over that of the find before.
 pub fn assess(table: &[u8], rows: &[u32], closed: Closure, best: Best, find: &mut [u8]) -> Reached
     requires table_value { (table_verdict table.now ≡ Accepted) × (length rows.now ≡ 130) }
-    requires table_in_bounds { length (table_of table.now).steps ≤ length find.old }
+    requires find_room { length (table_of table.now).steps ≤ length find.old }
     ensures { ComesOf (table_of table.now) closed best rows.now find.old find.new result }
 {
     if closed.fails {
@@ -61,7 +61,7 @@ pub fn reach(
     requires sized { Sized (table_of table.now) (memory rows.old words.old) }
     requires founded { Founded (table_of table.now) (memory rows.old words.old) }
     requires rest_but { «fresh» ≡ false → RestBut (table_of table.now) changed (knowledge (table_of table.now) (memory rows.old words.old)) }
-    requires table_in_bounds { length (table_of table.now).steps ≤ length find.old }
+    requires find_room { length (table_of table.now).steps ≤ length find.old }
     ensures { Reaches (table_of table.now) best (memory rows.old words.old) (memory rows.new words.new) find.old find.new result }
 {
     let closed = events::close(

@@ -29,7 +29,7 @@ fn close_nothing(
 ) -> Closure
     requires setting { Setting table.now net targets.now bases.now readers.now }
     requires rows_value { rows.old ≡ replicate 130 0 }
-    requires table_in_bounds { level_total (table_of table.now) ≤ length words.old }
+    requires words_room { level_total (table_of table.now) ≤ length words.old }
     ensures sized { Sized (table_of table.now) (memory rows.new words.new) }
     ensures closes { Closes (table_of table.now) [] result (memory rows.new words.new) }
     ensures resting { result.fails ≡ false → Resting (table_of table.now) (memory rows.new words.new) }
@@ -81,8 +81,8 @@ pub fn search_table(
 ) -> Outcome
     requires setting { Setting table.now net targets.now bases.now readers.now }
     requires levels_value { levels ≡ level_total (table_of table.now) }
-    requires table_in_bounds { level_total (table_of table.now) ≤ length words.old }
-    requires table_in_bounds_2 { length (table_of table.now).steps ≤ length list.old }
+    requires words_room { level_total (table_of table.now) ≤ length words.old }
+    requires list_room { length (table_of table.now).steps ≤ length list.old }
     ensures value { result ≡ outcome_of (search_under (table_of table.now) cap) }
     ensures list_after { list.new ≡ list_after (table_of table.now) (search_under (table_of table.now) cap) list.old }
     ensures words_len_unchanged { length words.new ≡ length words.old }

@@ -67,8 +67,8 @@ pub run-answer-requires : goal.run-answer-requires
 run-answer-requires c =
     record {
       table_value = (sym c.check_table.ensures ∙ c.in_default.is);
-      table_in_bounds = omega (arith, steps_at c.args.table.now c.counts_of-c.result (sym c.check_table.ensures ∙ c.in_default.is) c.counts_of-c.ensures);
-      table_in_bounds_2 = omega (arith, c.variable_count-v.ensures);
+      list_room = omega (arith, steps_at c.args.table.now c.counts_of-c.result (sym c.check_table.ensures ∙ c.in_default.is) c.counts_of-c.ensures);
+      words_room = omega (arith, c.variable_count-v.ensures);
       cells_value = c.variable_count-v.ensures;
     }
 
@@ -85,6 +85,6 @@ returns c =
       bytes_after = c.clear_bytes.ensures ∙ ap (λ (n : ℕ). cleared n a.bytes.now) v ∙ done.1.1.0;
       words_after = c.clear_words.ensures
           ∙ ap (λ (n : ℕ). cleared n c.run-answer.new.words) v
-          ∙ ap (λ (rest : List ℕ). take count (replicate count 0) ++ rest) c.run-answer.ensures.words_unchanged
+          ∙ ap (λ (rest : List ℕ). take count (replicate count 0) ++ rest) c.run-answer.ensures.words_past_v
           ∙ done.1.1.1;
     }

@@ -24,7 +24,7 @@ write_result-requires c =
     let table = c.args.table.now in
     let few = (counts_within (counts_of table) (header_accepted table c.requires.table_value).0).few_steps in
     record {
-      table_in_bounds = omega (arith, few, c.repair-answer.auto.list);
+      list_room = omega (arith, few, c.repair-answer.auto.list);
       room = room_as _ _ _ _ (same_text table c.repair-answer.ensures.value c.repair-answer.ensures.list_after) c.requires.room;
     }
 

@@ -44,7 +44,7 @@ sweep_once-r-requires c = let l = c.loop-net in record {
 pub returns-then-r : goal.returns-then-r
 returns-then-r c = record {
   closed = closed_failing (table_of c.args.table.now) c.loop-net.invariant.0 c.sweep_once-r.ensures.advance c.if-r.true;
-  rest_but_2 = λ e. absurd (true≢false e);
+  resting = λ e. absurd (true≢false e);
 }
 
 pub settled_steps-requires : goal.settled_steps-requires
@@ -66,7 +66,7 @@ returns-then-not-r c =
       closed = closed_resting T wf c.settled_steps.result l.invariant.0
           (advance_so T {Q = Rest T} (λ z. all_rest T wf (memory l.rows l.words) z (subst (λ (M : Memory). RestBut T 0 (knowledge T M)) same rests)) w.advance)
           f calm c.settled_steps.ensures;
-      rest_but_2 = λ e. rests;
+      resting = λ e. rests;
     }
 
 pub loop-net-smaller : goal.loop-net-smaller

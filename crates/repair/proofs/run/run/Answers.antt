@@ -53,10 +53,10 @@ readers_of-readers-requires c =
     }
 
 pub slice_bounds-search_table-end-4 : goal.slice_bounds-search_table-end-4
-slice_bounds-search_table-end-4 c = omega (arith, c.requires.table_in_bounds_2, c.requires.cells_value)
+slice_bounds-search_table-end-4 c = omega (arith, c.requires.words_room, c.requires.cells_value)
 
 pub slice_bounds-search_table-end-5 : goal.slice_bounds-search_table-end-5
-slice_bounds-search_table-end-5 c = sym (part_length c.args.words.now c.args.cells (omega (arith, c.requires.table_in_bounds_2, c.requires.cells_value)))
+slice_bounds-search_table-end-5 c = sym (part_length c.args.words.now c.args.cells (omega (arith, c.requires.words_room, c.requires.cells_value)))
 
 pub search_table-requires : goal.search_table-requires
 search_table-requires c =
@@ -64,29 +64,29 @@ search_table-requires c =
     let targets = c.target_sets-targets.ensures in
     let bases = c.level_bases-b.ensures in
     let fit = levels_fit T (accepted c.args.table.now c.requires.table_value).table in
-    let part = part_length c.args.words.now c.args.cells (omega (arith, c.requires.table_in_bounds_2, c.requires.cells_value)) in
+    let part = part_length c.args.words.now c.args.cells (omega (arith, c.requires.words_room, c.requires.cells_value)) in
     record {
       setting = setting_of c.args.table.now c.requires.table_value c.net_of-net.ensures targets bases c.readers_of-readers.ensures;
       levels_value = bases.total;
-      table_in_bounds = omega (arith, fit, part, c.requires.cells_value);
-      table_in_bounds_2 = c.requires.table_in_bounds;
+      words_room = omega (arith, fit, part, c.requires.cells_value);
+      list_room = c.requires.list_room;
     }
 
 -- the list has e bytes still
 pub slice_bounds-strike_unreached-end : goal.slice_bounds-strike_unreached-end
 slice_bounds-strike_unreached-end c =
     let count = steps_are c.args.table.now c.counts_of-counts.result c.counts_of-counts.ensures in
-    omega (arith, count, c.search_table.auto.list, c.requires.table_in_bounds)
+    omega (arith, count, c.search_table.auto.list, c.requires.list_room)
 
 pub slice_bounds-strike_unreached-end-in-Found : goal.slice_bounds-strike_unreached-end-in-Found
 slice_bounds-strike_unreached-end-in-Found c =
     let count = steps_are c.args.table.now c.counts_of-counts.result c.counts_of-counts.ensures in
-    sym (length-take-le _ _ (omega (arith, count, c.search_table.auto.list, c.requires.table_in_bounds)))
+    sym (length-take-le _ _ (omega (arith, count, c.search_table.auto.list, c.requires.list_room)))
 
 pub strike_unreached-requires : goal.strike_unreached-requires
 strike_unreached-requires c =
     let count = steps_are c.args.table.now c.counts_of-counts.result c.counts_of-counts.ensures in
-    let fits : c.counts_of-counts.result.steps ≤ length c.search_table.new.list = omega (arith, count, c.search_table.auto.list, c.requires.table_in_bounds) in
+    let fits : c.counts_of-counts.result.steps ≤ length c.search_table.new.list = omega (arith, count, c.search_table.auto.list, c.requires.list_room) in
     record {
       table_value = c.requires.table_value;
       net_value = c.net_of-net.ensures;
@@ -102,7 +102,7 @@ returns-in-Found c =
     record {
       value = ap carried told;
       list_after = after_found T c.args.list.now _ (search_under T c.args.cap) _ _ _ c.counts_of-counts.result.steps told c.search_table.ensures.list_after count struck.new.list struck.ensures;
-      words_unchanged = beyond c.args.words.now c.args.cells (omega (arith, c.requires.table_in_bounds_2, c.requires.cells_value)) c.search_table.new.words c.search_table.auto.words _ c.requires.cells_value;
+      words_past_v = beyond c.args.words.now c.args.cells (omega (arith, c.requires.words_room, c.requires.cells_value)) c.search_table.new.words c.search_table.auto.words _ c.requires.cells_value;
     }
 
 pub returns-in-None : goal.returns-in-None
@@ -112,7 +112,7 @@ returns-in-None c =
     record {
       value = ap carried told;
       list_after = after_none T c.args.list.now _ (search_under T c.args.cap) _ _ told c.search_table.ensures.list_after;
-      words_unchanged = beyond c.args.words.now c.args.cells (omega (arith, c.requires.table_in_bounds_2, c.requires.cells_value)) c.search_table.new.words c.search_table.auto.words _ c.requires.cells_value;
+      words_past_v = beyond c.args.words.now c.args.cells (omega (arith, c.requires.words_room, c.requires.cells_value)) c.search_table.new.words c.search_table.auto.words _ c.requires.cells_value;
     }
 
 pub returns-in-Spent : goal.returns-in-Spent
@@ -122,5 +122,5 @@ returns-in-Spent c =
     record {
       value = ap carried told;
       list_after = after_spent T c.args.list.now _ (search_under T c.args.cap) _ _ told c.search_table.ensures.list_after;
-      words_unchanged = beyond c.args.words.now c.args.cells (omega (arith, c.requires.table_in_bounds_2, c.requires.cells_value)) c.search_table.new.words c.search_table.auto.words _ c.requires.cells_value;
+      words_past_v = beyond c.args.words.now c.args.cells (omega (arith, c.requires.words_room, c.requires.cells_value)) c.search_table.new.words c.search_table.auto.words _ c.requires.cells_value;
     }

@@ -56,7 +56,7 @@ write_steps-requires c =
     let k2 = named a.out.now a.table.now a.price a.choices a.list.now k1 c.put_bytes-at.ensures in
     let count = ap (λ (x : Counts). x.steps) c.counts_of-c.ensures in
     record {
-      count_in_bounds = omega (arith, count, c.requires.table_in_bounds);
+      count_in_bounds = omega (arith, count, c.requires.list_room);
       room =
           room_as _ _ _ _ (same_lines a.table.now a.list.now c.counts_of-c.ensures c.steps_part.ensures)
           (left_room_all _ _ _ _ _ (kept_lines (steps_of a.table.now) a.list.now) k2 c.requires.room);

@@ -15,7 +15,7 @@ pub write_found-requires : goal.write_found-requires
 write_found-requires c =
     let a = c.args in
     record {
-      table_in_bounds = c.requires.table_in_bounds;
+      list_room = c.requires.list_room;
       room = room_as a.out.now 0 _ _ (told a.table.now a.list.now _ _ c.in-Found.is) c.requires.room;
     }
 

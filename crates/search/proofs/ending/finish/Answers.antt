@@ -16,7 +16,7 @@ use Rattle.search.proofs.ending.finish.Goals as goal
 pub copy_front-requires : goal.copy_front-requires
 copy_front-requires c =
     let e = steps_are c.args.table.now c.counts_of-c.result c.counts_of-c.ensures in
-    (omega (arith, c.requires.table_in_bounds.0), omega (arith, c.requires.table_in_bounds.1))
+    (omega (arith, c.requires.room.0), omega (arith, c.requires.room.1))
 
 pub returns-in-Unfound : goal.returns-in-Unfound
 returns-in-Unfound c =

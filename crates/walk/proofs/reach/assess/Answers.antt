@@ -22,7 +22,7 @@ returns-then-j-counts c words P b fine closes rest stores =
     c.lowest_unsettled-j.result c.lowest_unsettled-j.ensures (omega arith)
 
 pub write_list-requires : goal.write_list-requires
-write_list-requires c = (c.requires.table_value.0, c.requires.table_value.1, c.requires.table_in_bounds)
+write_list-requires c = (c.requires.table_value.0, c.requires.table_value.1, c.requires.find_room)
 
 pub returns-then-undercuts : goal.returns-then-undercuts
 returns-then-undercuts c words P b fine closes rest stores =

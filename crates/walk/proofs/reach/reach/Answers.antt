@@ -15,12 +15,12 @@ pub assess-requires : goal.assess-requires
 assess-requires c =
     record {
       table_value = (c.requires.setting.accepted, c.close-closed.ensures.closed.sized.rows_size);
-      table_in_bounds = c.requires.table_in_bounds;
+      find_room = c.requires.find_room;
     }
 
 pub returns : goal.returns
 returns c =
     record {
       sized = c.close-closed.ensures.closed.sized;
-      comes = λ P b fine between stores. c.assess.ensures _ P b fine (c.close-closed.ensures.closed.closes (step_literals P) between) c.close-closed.ensures.rest_but_2 stores;
+      comes = λ P b fine between stores. c.assess.ensures _ P b fine (c.close-closed.ensures.closed.closes (step_literals P) between) c.close-closed.ensures.resting stores;
     }

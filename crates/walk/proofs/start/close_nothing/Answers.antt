@@ -24,7 +24,7 @@ close-requires c =
     let T = table_of c.args.table.now in
     let k = length c.args.words.now in record {
       setting = c.requires.setting;
-      sized = nothing_sized T _ _ k c.requires.rows_value c.zero.ensures c.requires.table_in_bounds;
+      sized = nothing_sized T _ _ k c.requires.rows_value c.zero.ensures c.requires.words_room;
       founded = ([], (nothing_between T _ _ k c.requires.rows_value c.zero.ensures).below);
       rest_but = λ e. absurd (true≢false e);
     }
@@ -35,5 +35,5 @@ returns c =
     record {
       sized = c.close.ensures.closed.sized;
       closes = c.close.ensures.closed.closes [] between;
-      resting = c.close.ensures.rest_but_2;
+      resting = c.close.ensures.resting;
     }

@@ -14,7 +14,7 @@ close_nothing-closed-requires c =
     record {
       setting = c.requires.setting;
       rows_value = refl;
-      table_in_bounds = c.requires.table_in_bounds;
+      words_room = c.requires.words_room;
     }
 
 pub walk_table-walked-requires : goal.walk_table-walked-requires
@@ -25,7 +25,7 @@ walk_table-walked-requires c =
         all_levels = c.requires.levels_value;
         rows_size = e.sized.rows_size;
         small_rows = e.sized.small_rows;
-        words_size = omega (arith, c.close_nothing-closed.auto.words, c.requires.table_in_bounds);
+        words_size = omega (arith, c.close_nothing-closed.auto.words, c.requires.words_room);
         room = (accepted c.args.table.now c.requires.setting.accepted).table.few_steps;
       };
       closes = e.closes;
@@ -36,7 +36,7 @@ pub finish-requires : goal.finish-requires
 finish-requires c =
     record {
       table_value = c.requires.setting.accepted;
-      table_in_bounds = (omega (arith, c.walk_table-walked.auto.find, (accepted c.args.table.now c.requires.setting.accepted).table.few_steps), c.requires.table_in_bounds_2);
+      room = (omega (arith, c.walk_table-walked.auto.find, (accepted c.args.table.now c.requires.setting.accepted).table.few_steps), c.requires.list_room);
     }
 
 pub returns : goal.returns

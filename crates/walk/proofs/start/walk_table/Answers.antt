@@ -14,7 +14,7 @@ use Rattle.walk.proofs.start.walk_table.Goals as goal
 pub assess-requires : goal.assess-requires
 assess-requires c = record {
   table_value = (c.requires.handed.setting.accepted, c.requires.handed.rows_size);
-  table_in_bounds = c.requires.handed.room;
+  find_room = c.requires.handed.room;
 }
 
 pub both_ways-requires : goal.both_ways-requires

@@ -161,7 +161,7 @@ one_way-reach-requires t c =
       founded = subst (λ r. Founded T (memory r words)) back (_, between.below);
       rest_but = λ e. subst₂ (λ r set. RestBut T set (knowledge T (memory r words))) back (sym c.changed_by-changed.ensures)
           (chosen_rest T wf rows words sized c.args.sign c.args.j inside (step_literals stand.0) stand.3.between.below (c.requires.resting e));
-      table_in_bounds = h.room;
+      find_room = h.room;
     }
 
 pub one_way-both_ways-requires : goal.one_way-both_ways-requires
