@@ -7,20 +7,10 @@ use table::Counts;
 pub fn counts_fit(c: Counts) -> bool
     ensures { result ≡ counts_fit c }
 {
-    if c.states < 1 {
-        return false;
-    }
-    if 32 < c.states {
-        return false;
-    }
-    if 128 < c.steps {
-        return false;
-    }
-    if c.nodes < 1 {
-        return false;
-    }
-    if 32 < c.nodes {
-        return false;
-    }
-    c.props <= 16
+    1 <= c.states
+        && c.states <= 32
+        && c.steps <= 128
+        && 1 <= c.nodes
+        && c.nodes <= 32
+        && c.props <= 16
 }

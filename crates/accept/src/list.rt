@@ -2,21 +2,19 @@
 ghost use Rattle.std.specs.Prelude.{◌≡◌};
 ghost use Rattle.table.specs.Accept.{list_verdict};
 
-use table::{Refusal, Verdict};
+use table::Refusal;
 
 // A list is e bytes, each 0 or 1.
-pub fn check_list(list: &[u8], e: usize) -> Verdict
+pub fn check_list(list: &[u8], e: usize) -> Result<(), Refusal>
     ensures { result ≡ list_verdict e list.now }
 {
     if list.len() != e {
-        return Verdict::Refused(Refusal::ListForm);
+        return Err(Refusal::ListForm);
     }
-    let mut j = 0;
-    while j < list.len() {
-        if 1 < list[j] {
-            return Verdict::Refused(Refusal::ListForm);
+    for byte in list {
+        if 1 < *byte {
+            return Err(Refusal::ListForm);
         }
-        j += 1;
     }
-    Verdict::Accepted
+    Ok(())
 }

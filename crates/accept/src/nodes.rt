@@ -3,7 +3,7 @@ ghost use Rattle.std.specs.Prelude.{◌≡◌};
 ghost use Rattle.table.specs.Table.{records, node_of, node_width};
 ghost use Rattle.table.specs.Accept.{fields_fit, nodes_verdict};
 
-use table::{Refusal, Shape, Verdict, node_at, shape_of};
+use table::{Node, Refusal, Shape, record_at, shape_of};
 
 fn fields_fit(shape: Shape, p: usize, i: usize, a: usize, b: usize) -> bool
     ensures { result ≡ fields_fit shape p i a b }
@@ -17,16 +17,14 @@ fn fields_fit(shape: Shape, p: usize, i: usize, a: usize, b: usize) -> bool
     }
 }
 
-pub fn check_nodes(section: &[u8], f: usize, p: usize) -> Verdict
+pub fn check_nodes(section: &[u8], f: usize, p: usize) -> Result<(), Refusal>
     ensures { result ≡ nodes_verdict p (records node_of node_width f section.now) }
 {
-    let mut i = 0;
-    while i < f {
-        let x = node_at(section, i);
+    for i in 0..f {
+        let x: Node = record_at(section, i);
         if !fields_fit(shape_of(x.kind), p, i, x.a, x.b) {
-            return Verdict::Refused(Refusal::NodeRecord);
+            return Err(Refusal::NodeRecord);
         }
-        i += 1;
     }
-    Verdict::Accepted
+    Ok(())
 }

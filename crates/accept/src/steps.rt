@@ -3,42 +3,35 @@ ghost use Rattle.std.specs.Prelude.{◌≡◌, false, ◌≤◌, ◌<◌, ◌+�
 ghost use Rattle.table.specs.Table.{records, step_of, step_width};
 ghost use Rattle.table.specs.Accept.{step_fits, steps_verdict};
 
-use table::{Refusal, Step, Verdict, step_at};
+use table::{Refusal, Step, record_at};
 
 // Both ends are states.
 fn step_fits(n: usize, x: Step) -> bool
     ensures { result ≡ step_fits n x }
 {
-    if n <= x.from {
-        return false;
-    }
-    x.to < n
+    x.from < n && x.to < n
 }
 
 // One pass: the first step with an end that is no state is refused at once. Which steps were given is kept in a table of bits, a
 // row for each state and a bit for each end, so that a step given twice is found without comparing pairs.
-pub fn check_steps(section: &[u8], e: usize, n: usize) -> Verdict
+pub fn check_steps(section: &[u8], e: usize, n: usize) -> Result<(), Refusal>
     requires { n ≤ 32 }
     ensures { result ≡ steps_verdict n (records step_of step_width e section.now) }
 {
     let mut given = [0u32; 32];
     let mut repeated = false;
-    let mut j = 0;
-    while j < e {
-        let x = step_at(section, j);
+    for j in 0..e {
+        let x: Step = record_at(section, j);
         if !step_fits(n, x) {
-            return Verdict::Refused(Refusal::StepEnd);
+            return Err(Refusal::StepEnd);
         }
-        let from = x.from;
-        let to = x.to;
-        let row = given[from];
-        repeated = repeated || sets::contains(row, to);
-        given[from] = sets::insert(row, to);
-        j += 1;
+        let row = given[x.from];
+        repeated = repeated || sets::contains(row, x.to);
+        given[x.from] = sets::insert(row, x.to);
     }
     if repeated {
-        Verdict::Refused(Refusal::RepeatedStep)
+        Err(Refusal::RepeatedStep)
     } else {
-        Verdict::Accepted
+        Ok(())
     }
 }

@@ -1,46 +1,11 @@
--- What a node of a kind costs, whatever its children, and the most that it costs where the counts are bytes.
-use Prim.Native.Nat.{ℕ, zero, suc, ◌+◌, ◌*◌, ◌≤◌, ◌<◌}
+-- The most that a node costs where the counts are bytes.
+use Prim.Native.Nat.{ℕ, ◌+◌, ◌*◌, ◌≤◌}
 use native.Mathlib.Nat.{mul-le-mul}
 use native.Mathlib.Omega.{arith}
-use mathlib.Core.Path.{◌≡◌, refl, sym, ap}
-use mathlib.Core.Bool.{false}
-use lib.ListN.{get_or, get_or-eq_default}
-use Rattle.table.specs.declared.family.Family.{Family}
-use Rattle.table.specs.declared.family.Family.TheVariants.{Release, Until, Eventually, Always}
-use Rattle.table.proofs.Numbers.{two, four}
-use Rattle.ctl.specs.Rule.{Operator, constant, atom, negation, conjunction, disjunction, next, fixpoint, operators}
+use Rattle.table.specs.declared.operator.Family.{Family}
+use Rattle.table.specs.declared.operator.Family.TheVariants.{Release, Until, Eventually, Always}
+use Rattle.ctl.specs.Rule.{Operator, constant, atom, negation, conjunction, disjunction, next, fixpoint}
 use Rattle.circuit.specs.Variables.{own_count, cost_of}
-
-module _ (n e a b : ℕ) where
-  -- what a node of kind k costs
-  abbrev pub kind_cost : ℕ → ℕ
-  kind_cost k = cost_of n e (get_or (operators a b) k (constant false))
-
-  -- Kinds 0 to 5 cost n.
-  pub cost_plain : (k : ℕ) → k < 6 → n ≡ kind_cost k
-  cost_plain zero h = refl
-  cost_plain (suc zero) h = refl
-  cost_plain (suc (suc zero)) h = refl
-  cost_plain (suc (suc (suc zero))) h = refl
-  cost_plain (suc (suc (suc (suc zero)))) h = refl
-  cost_plain (suc (suc (suc (suc (suc zero))))) h = refl
-  cost_plain (suc (suc (suc (suc (suc (suc k)))))) h = absurd (omega arith)
-
-  -- Kinds 6 and 7 cost e + n.
-  pub cost_next : (k : ℕ) → 6 ≤ k → k < 8 → e + n ≡ kind_cost k
-  cost_next k low high = two (λ (j : ℕ). e + n ≡ kind_cost j) 6 k low high refl refl
-
-  -- Kinds 8 to 11 cost n + n (e + 3 n).
-  pub cost_binary : (k : ℕ) → 8 ≤ k → k < 12 → n + n * (e + 3 * n) ≡ kind_cost k
-  cost_binary k low high = four (λ (j : ℕ). n + n * (e + 3 * n) ≡ kind_cost j) 8 k low high refl refl refl refl
-
-  -- Kinds 12 to 15 cost n + n (e + 2 n).
-  pub cost_unary : (k : ℕ) → 12 ≤ k → k < 16 → n + n * (e + 2 * n) ≡ kind_cost k
-  cost_unary k low high = four (λ (j : ℕ). n + n * (e + 2 * n) ≡ kind_cost j) 12 k low high refl refl refl refl
-
-  -- Every later kind is the constant false, and costs n.
-  pub cost_unknown : (k : ℕ) → 16 ≤ k → n ≡ kind_cost k
-  cost_unknown k h = sym (ap (cost_of n e) (get_or-eq_default (operators a b) (constant false) {n = k} h))
 
 -- A level has at most three variables at one state, beside its step gates.
 pub own_few : (f : Family) → own_count f ≤ 3

@@ -9,8 +9,8 @@ use lib.Dec.{eqb, eqb-suc-suc, eqb-zero-suc, eqb-suc-zero}
 use lib.ListN.{length, get_or, length-append, length-map}
 use Rattle.table.specs.declared.record.Node.{Node}
 use Rattle.table.specs.declared.record.Step.{Step}
-use Rattle.table.specs.declared.family.Family.{Family}
-use Rattle.table.specs.declared.family.Family.TheVariants.{Release, Until, Eventually, Always}
+use Rattle.table.specs.declared.operator.Family.{Family}
+use Rattle.table.specs.declared.operator.Family.TheVariants.{Release, Until, Eventually, Always}
 use Rattle.table.specs.Table.{Table, zero_step, zero_node, node_at}
 use Rattle.table.specs.Facts.{Wellformed}
 use Rattle.ctl.specs.Rule.{Operator, constant, atom, negation, conjunction, disjunction, next, fixpoint, operator_of}

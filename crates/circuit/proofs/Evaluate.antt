@@ -6,8 +6,8 @@ use mathlib.Core.List.{List, []}
 use lib.Dec.{eqb}
 use lib.ListN.{length, get_or}
 use Rattle.sets.specs.Member.{member}
-use Rattle.table.specs.declared.family.Family.{Family}
-use Rattle.table.specs.declared.family.Family.TheVariants.{Release, Until, Eventually, Always}
+use Rattle.table.specs.declared.operator.Family.{Family}
+use Rattle.table.specs.declared.operator.Family.TheVariants.{Release, Until, Eventually, Always}
 use Rattle.table.specs.Table.{Table, state_at, node_at, step_at}
 use Rattle.table.specs.Accept.{any as any_of}
 use Rattle.table.specs.Facts.{Wellformed}

@@ -2,17 +2,17 @@
 use Prim.Native.Nat.{ℕ, ◌≤◌}
 use mathlib.Core.Path.{◌≡◌, sym}
 use mathlib.Core.List.{List}
-use Rattle.table.specs.declared.refusal.Verdict.TheVariants.{Accepted}
+use Rattle.std.specs.Prelude.{Ok}
 use Rattle.table.specs.Table.{table_of}
 use Rattle.table.specs.Accept.{table_verdict}
-use Rattle.table.proofs.Accepted.{accepted}
+use Rattle.table.proofs.Facts.{accepted}
 use Rattle.circuit.specs.Variables.{variable_count, variable_formula}
 use Rattle.circuit.proofs.Count.{count_formula, few_variables}
 
 -- The formula counts the variables.
-pub count_exact : (bytes : List ℕ) → table_verdict bytes ≡ Accepted → variable_formula (table_of bytes) ≡ variable_count (table_of bytes)
+pub count_exact : (bytes : List ℕ) → table_verdict bytes ≡ Ok tt → variable_formula (table_of bytes) ≡ variable_count (table_of bytes)
 count_exact bytes ok = sym (count_formula (table_of bytes) (accepted bytes ok).table)
 
 -- There are at most 223392.
-pub count_most : (bytes : List ℕ) → table_verdict bytes ≡ Accepted → variable_formula (table_of bytes) ≤ 223392
+pub count_most : (bytes : List ℕ) → table_verdict bytes ≡ Ok tt → variable_formula (table_of bytes) ≤ 223392
 count_most bytes ok = few_variables (table_of bytes) (accepted bytes ok).table

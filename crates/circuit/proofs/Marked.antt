@@ -11,7 +11,7 @@ use borrow.Author.Tests.{eqb-true, eq-eqb}
 use lib.Dec.{eqb}
 use lib.ListN.{length, get_or}
 use Rattle.table.specs.declared.record.Step.{Step}
-use Rattle.table.specs.declared.family.Family.{Family}
+use Rattle.table.specs.declared.operator.Family.{Family}
 use Rattle.table.specs.Table.{Table, zero_step, step_at}
 use Rattle.table.specs.Accept.{all as all_of}
 use Rattle.table.specs.Facts.{Wellformed}

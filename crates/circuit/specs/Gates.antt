@@ -1,8 +1,8 @@
 -- The gate of each variable that is not a step, in the order of the variables. 01, "The net", the list of K, X and the levels; 02, A1.
 use Rattle.std.specs.Prelude.{ℕ, suc, Bool, true, false, List, [], ◌∷◌, ◌++◌, map, length}
 use Rattle.sets.specs.Member.{member}
-use Rattle.table.specs.declared.family.Family.{Family}
-use Rattle.table.specs.declared.family.Family.TheVariants.{Release, Until, Eventually, Always}
+use Rattle.table.specs.declared.operator.Family.{Family}
+use Rattle.table.specs.declared.operator.Family.TheVariants.{Release, Until, Eventually, Always}
 use Rattle.table.specs.Table.{Table, state_at, step_at, node_at}
 use Rattle.ctl.specs.Rule.{Quantifier, every, some, Operator, constant, atom, negation, conjunction, disjunction, next, fixpoint, operator_of}
 use Rattle.circuit.specs.Logic.{Literal, pos, neg, Gate, all, any}

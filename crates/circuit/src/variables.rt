@@ -1,18 +1,28 @@
 // The number of variables of a table's circuit, from the packed table.
-ghost use Rattle.std.specs.Prelude.{◌≡◌, false, ℕ, ◌≤◌, get_or};
+ghost use Rattle.std.specs.Prelude.{◌≡◌, ◌≤◌};
 ghost use Rattle.table.specs.Table.{table_of};
-ghost use Rattle.ctl.specs.Rule.{constant, operators};
-ghost use Rattle.circuit.specs.Variables.{cost_of, variable_formula};
+ghost use Rattle.circuit.specs.Variables.{cost_of, own_count, variable_formula};
 
-// How many variables a node of a kind has, whatever its children, with n states and e steps.
-fn node_cost(kind: usize, n: usize, e: usize) -> usize
-    requires { (n ≤ 255) × (e ≤ 255) }
-    ensures { (a b : ℕ) → result ≡ cost_of n e (get_or (operators a b) kind (constant false)) }
+use table::{Family, Node, Operator, counts_of, record_at, sections_of};
+
+// How many variables a level of a fixed point has at each state.
+fn own_count(family: Family) -> usize
+    ensures { result ≡ own_count family }
 {
-    match kind {
-        6 | 7 => e + n,
-        8 | 9 | 10 | 11 => n + n * (e + 3 * n),
-        12 | 13 | 14 | 15 => n + n * (e + 2 * n),
+    match family {
+        Family::Release | Family::Until => 3,
+        Family::Eventually | Family::Always => 2,
+    }
+}
+
+// How many variables a node has, with n states and e steps.
+fn node_cost(operator: Operator, n: usize, e: usize) -> usize
+    requires { (n ≤ 255) × (e ≤ 255) }
+    ensures { result ≡ cost_of n e operator }
+{
+    match operator {
+        Operator::Next(_, _) => e + n,
+        Operator::Fixpoint(family, _, _, _) => n + n * (e + own_count(family) * n),
         _ => n,
     }
 }
@@ -21,17 +31,14 @@ fn node_cost(kind: usize, n: usize, e: usize) -> usize
 pub fn variable_count(table: &[u8]) -> usize
     ensures { result ≡ variable_formula (table_of table.now) }
 {
-    let c = table::counts_of(table);
+    let c = counts_of(table);
     let n = c.states;
     let e = c.steps;
-    let f = c.nodes;
-    let nodes = table::nodes_part(table);
+    let nodes = sections_of(table).nodes;
     let mut sum = e + n;
-    let mut i = 0;
-    while i < f {
-        let x = table::node_at(nodes, i);
-        sum += node_cost(x.kind, n, e);
-        i += 1;
+    for i in 0..c.nodes {
+        let x: Node = record_at(nodes, i);
+        sum += node_cost(Operator::from(x), n, e);
     }
     sum
 }

@@ -9,7 +9,7 @@ use mathlib.Core.Logic.{inl, inr}
 use borrow.Author.Tests.{eqb-true, eqb-false}
 use lib.Dec.{eqb}
 use lib.ListN.{length}
-use Rattle.table.specs.declared.family.Family.{Family}
+use Rattle.table.specs.declared.operator.Family.{Family}
 use Rattle.table.specs.Table.{Table, node_at}
 use Rattle.table.specs.Facts.{Wellformed}
 use Rattle.ctl.specs.Rule.{Quantifier, fixpoint as fixpoint_of, operator_of}

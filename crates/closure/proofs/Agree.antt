@@ -10,8 +10,8 @@ use lib.ListN.{length}
 use Rattle.sets.specs.Member.{member}
 use Rattle.sets.proofs.Laws.{member-and, member-or, member_complement, ext}
 use Rattle.sets.proofs.SetOf.{member-set_of-below}
-use Rattle.table.specs.declared.family.Family.{Family}
-use Rattle.table.specs.declared.family.Family.TheVariants.{Release, Until, Eventually, Always}
+use Rattle.table.specs.declared.operator.Family.{Family}
+use Rattle.table.specs.declared.operator.Family.TheVariants.{Release, Until, Eventually, Always}
 use Rattle.table.specs.Table.{Table}
 use Rattle.table.specs.Rows.{target_set}
 use Rattle.ctl.specs.Rule.{Quantifier}

@@ -6,8 +6,8 @@ use mathlib.Core.Bool.{Bool, true, false, not}
 use mathlib.Core.Logic.{⊎_elim}
 use mathlib.Core.List.{Memᴰ}
 use lib.ListN.{length}
-use Rattle.table.specs.declared.family.Family.{Family}
-use Rattle.table.specs.declared.family.Family.TheVariants.{Release, Until, Eventually, Always}
+use Rattle.table.specs.declared.operator.Family.{Family}
+use Rattle.table.specs.declared.operator.Family.TheVariants.{Release, Until, Eventually, Always}
 use Rattle.table.specs.Table.{Table, node_at}
 use Rattle.table.specs.Facts.{Wellformed}
 use Rattle.table.proofs.Bools.{or_parts}

@@ -15,7 +15,7 @@ use Rattle.table.specs.Table.{Table, table_of, node_at, states_part}
 use Rattle.table.specs.StateSets.{labelled_word}
 use Rattle.table.specs.Facts.{Wellformed, Packed}
 use Rattle.table.specs.Rows.{target_set}
-use Rattle.table.proofs.Accepted.{state_read_lem}
+use Rattle.table.proofs.Facts.{state_read_lem}
 use Rattle.ctl.specs.Rule.{Quantifier, every, some, Operator, constant, atom, negation, conjunction, disjunction, next, fixpoint, operator_of}
 use Rattle.ctl.proofs.BottomUp.{Below, children_below}
 use Rattle.rows.specs.Row.{ClearAt}

@@ -8,7 +8,7 @@ use borrow.Author.Tests.{ltb-true}
 use lib.ListN.{length}
 use Rattle.sets.specs.Member.{member, set_of}
 use Rattle.sets.proofs.SetOf.{member-set_of-below, in_set}
-use Rattle.table.specs.declared.family.Family.{Family}
+use Rattle.table.specs.declared.operator.Family.{Family}
 use Rattle.table.specs.Table.{Table, state_at, node_at}
 use Rattle.table.specs.Facts.{Wellformed}
 use Rattle.ctl.specs.Rule.{Quantifier, every, some, Operator, constant, atom, negation, fixpoint, operator_of}

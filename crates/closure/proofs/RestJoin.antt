@@ -4,8 +4,8 @@ use mathlib.Core.Path.{◌≡◌, refl}
 use mathlib.Core.Bool.{true, false}
 use mathlib.Core.Logic.{inl, inr, ⊎_elim}
 use lib.Bits.{bit_and, bit_or}
-use Rattle.table.specs.declared.family.Family.{Family}
-use Rattle.table.specs.declared.family.Family.TheVariants.{Release, Until, Eventually, Always}
+use Rattle.table.specs.declared.operator.Family.{Family}
+use Rattle.table.specs.declared.operator.Family.TheVariants.{Release, Until, Eventually, Always}
 use Rattle.rows.specs.declared.row.Row.{Row}
 use Rattle.rows.specs.Row.{known, turned, WithinAt, ClearAt}
 use Rattle.rows.specs.Rules.{and_output, and_input, either_row, join_release, join_always, join_of, new_of}

@@ -5,8 +5,8 @@ use mathlib.Core.Bool.{Bool, false, ◌&&◌}
 use lib.Bits.{and_lt, or_lt}
 use Rattle.sets.specs.Member.{member}
 use Rattle.sets.proofs.SetOf.{set_of-lt}
-use Rattle.table.specs.declared.family.Family.{Family}
-use Rattle.table.specs.declared.family.Family.TheVariants.{Release, Until, Eventually, Always}
+use Rattle.table.specs.declared.operator.Family.{Family}
+use Rattle.table.specs.declared.operator.Family.TheVariants.{Release, Until, Eventually, Always}
 use Rattle.rows.specs.declared.row.Row.{Row}
 use Rattle.rows.specs.declared.joined.Joined.{Joined}
 use Rattle.rows.specs.Row.{turned, only}

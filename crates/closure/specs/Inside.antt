@@ -1,6 +1,6 @@
 -- What the rows know lies in a set of literals: each bit is the literal of a variable of the table that is in the set.
 use Rattle.std.specs.Prelude.{ℕ, ◌≤◌, ◌<◌, ◌≡◌, Bool, true, false, length}
-use Rattle.table.specs.declared.family.Family.{Family}
+use Rattle.table.specs.declared.operator.Family.{Family}
 use Rattle.table.specs.Table.{Table, step_at, node_at}
 use Rattle.ctl.specs.Rule.{Quantifier, fixpoint, operator_of}
 use Rattle.circuit.specs.Logic.{Literal}

@@ -2,7 +2,7 @@
 -- all that is forced, whatever the order in which they got there.
 use Rattle.std.specs.Prelude.{ℕ, suc, ◌<◌, ◌≡◌, Bool, true, false, cond, eqb, length}
 use Rattle.sets.specs.Member.{member, set_of}
-use Rattle.table.specs.declared.family.Family.{Family}
+use Rattle.table.specs.declared.operator.Family.{Family}
 use Rattle.table.specs.Table.{Table, state_at, node_at}
 use Rattle.table.specs.Accept.{initial_at}
 use Rattle.table.specs.Rows.{target_set}

@@ -1,11 +1,10 @@
 // Where the words of the stored levels lie, one fixed-point node after the other.
-ghost use Rattle.std.specs.Prelude.{◌≡◌, false, ℕ, ◌≤◌, get_or};
-ghost use Rattle.table.specs.declared.refusal.Verdict.TheVariants.{Accepted};
+ghost use Rattle.std.specs.Prelude.{◌≡◌, ◌≤◌};
 ghost use Rattle.table.specs.Table.{table_of};
-ghost use Rattle.table.specs.Accept.{table_verdict};
-ghost use Rattle.ctl.specs.Rule.{constant, operators};
 ghost use Rattle.closure.specs.Knowledge.{level_size};
 ghost use Rattle.closure.specs.Bases.{AreBases};
+
+use table::{Accepted, Operator};
 
 // Where those of each node begin, and how many there are in all.
 #[derive(Clone, Copy)]
@@ -14,33 +13,27 @@ pub struct Bases {
     pub total: usize,
 }
 
-// How many words a node of a kind takes, whatever its children, with n states.
-fn level_size(kind: usize, n: usize) -> usize
+// How many words a node takes, with n states.
+fn level_size(n: usize, operator: Operator) -> usize
     requires { (1 ≤ n) × (n ≤ 32) }
-    ensures { (a b : ℕ) → result ≡ level_size n (get_or (operators a b) kind (constant false)) }
+    ensures { result ≡ level_size n operator }
 {
-    match kind {
-        8 | 9 | 10 | 11 | 12 | 13 | 14 | 15 => 2 * (n - 1),
+    match operator {
+        Operator::Fixpoint(..) => 2 * (n - 1),
         _ => 0,
     }
 }
 
 // A node past the last reads as zeros and takes no words, so that every place has a base.
-pub fn level_bases(table: &[u8]) -> Bases
-    requires { table_verdict table.now ≡ Accepted }
-    ensures { AreBases (table_of table.now) result }
+pub fn level_bases(table: &Accepted<'_>) -> Bases
+    ensures { AreBases (table_of table.now.bytes.now) result }
 {
-    let c = table::counts_of(table);
-    let n = c.states;
-    let nodes = table::nodes_part(table);
+    let n = table.state_count();
     let mut at = [0usize; 32];
     let mut total = 0;
-    let mut i = 0;
-    while i < 32 {
+    for i in 0..32 {
         at[i] = total;
-        let x = table::node_at(nodes, i);
-        total += level_size(x.kind, n);
-        i += 1;
+        total += level_size(n, Operator::from(table.node(i)));
     }
     Bases { at, total }
 }

@@ -1,16 +1,12 @@
 // The closure of a set of literals: what it is, and unit propagation over rows of machine words.
 #![tactic(auto)]
 
-mod answer;
 mod bases;
 mod kept;
-mod net;
 mod node;
 mod settled;
 
-pub use answer::Closure;
 pub use bases::{Bases, level_bases};
 pub use kept::{KEPT_PLACE, kept_step, start_step};
-pub use net::Net;
 pub use node::node_step;
 pub use settled::settled_steps;

@@ -1,51 +1,69 @@
-// The rules of a node, by its kind; at the states of a set, where it reads steps.
+// The rules of a node, by its operator; at the states of a set, where it reads steps.
 ghost use Rattle.std.specs.Prelude.{◌≡◌, List, ℕ, ◌+◌, ◌*◌, ◌-◌, ◌≤◌, ◌<◌, length, get_or};
-ghost use Rattle.ctl.specs.Rule.{operator_of};
+ghost use Rattle.sets.specs.Member.{set_of};
+ghost use Rattle.table.specs.declared.operator.Family.{Family};
+ghost use Rattle.ctl.specs.Rule.{Quantifier, fixpoint, operator_of};
+ghost use Rattle.closure.specs.Dual.{is_every};
 ghost use Rattle.closure.specs.MemoryRules.{node_step};
 ghost use Rattle.propagate.specs.Memory.{memory, stepped};
 
-use propagate::{add_node, fixpoint_step, next_step, pair_step, same_step};
+use propagate::{Fixpoint, Graph, add_node, fixpoint_step, next_step, pair_step, same_step};
 use rows::{Report, constant_row};
-use table::{Node, family_of, second_child};
+use table::{Node, Operator, Quantifier};
 
+// A is taken as it is, E as its dual.
+fn is_every(q: Quantifier) -> bool
+    ensures { result ≡ is_every q }
+{
+    q == Quantifier::Every
+}
+
+// All states, or none.
+fn constant_set(n: usize, holds: bool) -> u32
+    requires { n ≤ 32 }
+    ensures { result ≡ set_of n (λ s. holds) }
+{
+    if holds { sets::below(n) } else { 0 }
+}
+
+// Of a table only the section of its states is read, so any bytes do.
 pub fn node_step(
     table: &[u8],
-    targets: &[u32],
-    rows: &mut [u32],
+    graph: &Graph,
+    rows: &mut [u32; 130],
     words: &mut [u32],
-    n: usize,
-    look: u32,
     base: usize,
     i: usize,
     x: Node,
+    look: u32,
     down: bool,
 ) -> Report
-    requires i_bound { (i < 32) × ((x.a < 32) × ((x.b < 32) × (length rows.old ≡ 130))) }
-    requires n_bound { (n ≤ 32) × (length targets.now ≡ 32) }
-    requires n_in_bounds { 8 ≤ x.kind → base + 2 * (n - 1) ≤ length words.old }
-    ensures { (bases : List ℕ) → get_or bases i 0 ≡ base → stepped rows.new words.new result ≡ node_step table.now targets.now bases n look down i (operator_of x) (memory rows.old words.old) }
+    requires i_bound { (i < 32) × ((x.a < 32) × (x.b < 32)) }
+    requires levels_below { (family : Family) (q : Quantifier) (a b : ℕ) → operator_of x ≡ fixpoint family q a b → base + 2 * (graph.now.states - 1) ≤ length words.old }
+    ensures { (bases : List ℕ) → get_or bases i 0 ≡ base → stepped rows.new words.new result ≡ node_step table.now graph.now.targets bases graph.now.states look down i (operator_of x) (memory rows.old words.old) }
 {
-    let kind = x.kind;
-    // from kind 6 on, an even kind is of every path
-    let every = kind % 2 == 0;
-    let a = x.a;
-    let b = second_child(x);
-    match kind {
-        1 => add_node(rows, i, constant_row(n, sets::below(n))),
-        2 => {
-            let set = table::labelled_states(table::states_part(table), n, a);
+    let n = graph.states;
+    match Operator::from(x) {
+        Operator::Constant(holds) => add_node(rows, i, constant_row(n, constant_set(n, holds))),
+        Operator::Atom(p) => {
+            let set = table::labelled_states(table::sections_of(table).states, n, p);
             add_node(rows, i, constant_row(n, set))
         }
-        3 => same_step(rows, i, false, a),
-        4 => pair_step(rows, i, true, a, b),
-        5 => pair_step(rows, i, false, a, b),
-        6 | 7 => next_step(targets, rows, n, look, i, every, a),
-        8 | 9 | 10 | 11 | 12 | 13 | 14 | 15 => {
-            let family = family_of(kind);
-            fixpoint_step(
-                targets, rows, words, n, look, base, family, i, every, a, b, down,
-            )
+        Operator::Negation(a) => same_step(rows, i, false, a),
+        Operator::Conjunction(a, b) => pair_step(rows, i, true, a, b),
+        Operator::Disjunction(a, b) => pair_step(rows, i, false, a, b),
+        Operator::Next(q, a) => next_step(graph, rows, look, i, is_every(q), a),
+        Operator::Fixpoint(family, q, a, b) => {
+            let every = is_every(q);
+            let levels = Fixpoint {
+                family,
+                node: i,
+                a,
+                b,
+                every,
+                base,
+            };
+            fixpoint_step(graph, rows, words, levels, down, look)
         }
-        _ => add_node(rows, i, constant_row(n, 0)),
     }
 }

@@ -7,8 +7,8 @@ use mathlib.Core.Logic.{◌↔◌}
 use mathlib.Core.List.Memᴰ
 use mathlib.Core.List.{List, [], ◌∷◌, Memᴰ}
 use lib.ListN.{length}
-use Rattle.table.specs.declared.family.Family.{Family}
-use Rattle.table.specs.declared.family.Family.TheVariants.{Release, Until, Eventually, Always}
+use Rattle.table.specs.declared.operator.Family.{Family}
+use Rattle.table.specs.declared.operator.Family.TheVariants.{Release, Until, Eventually, Always}
 use Rattle.table.specs.Accept.{all, any}
 use Rattle.ctl.specs.Meaning.{Fullpath, Released, UntilAlong, EventuallyAlong, AlwaysAlong}
 use Rattle.ctl.specs.Rule.{Quantifier, every, some}

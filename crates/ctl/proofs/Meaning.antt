@@ -8,8 +8,8 @@ use mathlib.Core.Logic.Iff
 use mathlib.Core.Logic.{◌↔◌, ◌⊎◌, inl, inr, ⊎_elim, ⊎_map}
 use mathlib.Core.List.{List, []}
 use lib.ListN.{length}
-use Rattle.table.specs.declared.family.Family.{Family}
-use Rattle.table.specs.declared.family.Family.TheVariants.{Release, Until, Eventually, Always}
+use Rattle.table.specs.declared.operator.Family.{Family}
+use Rattle.table.specs.declared.operator.Family.TheVariants.{Release, Until, Eventually, Always}
 use Rattle.table.specs.Table.{Table, node_at}
 use Rattle.table.specs.Facts.{Wellformed}
 use Rattle.ctl.specs.Meaning.{Formula, bottom, Holds}

@@ -7,7 +7,7 @@ use mathlib.Core.List.{List, [], ◌∷◌}
 use lib.ListN.{length, get_or}
 use Rattle.sets.specs.Member.{member}
 use Rattle.table.specs.declared.refusal.Refusal.TheVariants.{UnreachedStep}
-use Rattle.table.specs.declared.refusal.Verdict.TheVariants.{Refused}
+use Rattle.std.specs.Prelude.{Err}
 use Rattle.table.specs.Table.{Table, state_at, step_at, node_at}
 use Rattle.table.specs.Accept.{all, any, same_step, node_fits}
 use Rattle.table.specs.Facts.{Wellformed}
@@ -85,7 +85,7 @@ unfolding all any tabulate member kept_steps ends_from bottom_up label_of label
 loops_pass = refl
 
 -- and 16 does not, since no kept step leads from state 0 to state 1
-pub loops_unreached : narrow_tests loops both_loops ≡ Refused UnreachedStep
+pub loops_unreached : narrow_tests loops both_loops ≡ Err UnreachedStep
 unfolding all any tabulate iterate next_in level levels kept_steps ends_from reached_set
 loops_unreached = refl
 

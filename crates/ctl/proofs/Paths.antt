@@ -9,7 +9,7 @@ use mathlib.Core.Logic.{◌↔◌, ◌⊎◌, inl, inr, ⊎_elim}
 use mathlib.Core.List.Memᴰ
 use mathlib.Core.List.{List, [], ◌∷◌, Memᴰ}
 use lib.ListN.{length}
-use Rattle.table.specs.declared.family.Family.TheVariants.{Release}
+use Rattle.table.specs.declared.operator.Family.TheVariants.{Release}
 use Rattle.table.specs.Accept.{all}
 use Rattle.table.proofs.Bools.{not_so}
 use Rattle.ctl.specs.Meaning.{Fullpath, Released, UntilAlong}

@@ -9,7 +9,7 @@ use mathlib.Core.List.{List, map, Memᴰ}
 use borrow.Author.Tests.{eqb-true, eq-eqb}
 use lib.Dec.{eqb}
 use lib.ListN.{length}
-use Rattle.table.specs.declared.family.Family.TheVariants.{Eventually}
+use Rattle.table.specs.declared.operator.Family.TheVariants.{Eventually}
 use Rattle.table.specs.declared.record.Step.{Step}
 use Rattle.table.specs.Table.{Table, state_at}
 use Rattle.table.specs.Facts.{Wellformed}

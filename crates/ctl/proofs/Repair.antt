@@ -11,8 +11,8 @@ use borrow.Author.Tests.{eqb-true, eq-eqb, leb-true, le-leb}
 use lib.Dec.{eqb, leb}
 use lib.ListN.{length}
 use Rattle.table.specs.declared.refusal.Refusal.TheVariants.{NotTotal, NoInitialKept, RootFails, UnreachedStep}
-use Rattle.table.specs.declared.refusal.Verdict.{Verdict}
-use Rattle.table.specs.declared.refusal.Verdict.TheVariants.{Accepted, Refused}
+use Rattle.table.specs.Verdict.{Verdict}
+use Rattle.std.specs.Prelude.{Ok, Err}
 use Rattle.table.specs.Table.{Table, table_of}
 use Rattle.table.specs.Accept.{all, any, table_verdict, list_verdict}
 use Rattle.table.specs.Facts.{Wellformed}
@@ -98,12 +98,12 @@ true_dec : (b : Bool) → Dec (b ≡ true)
 true_dec true = yes refl
 true_dec false = no false≢true
 
-accepted_dec : (v : Verdict) → Dec (v ≡ Accepted)
-accepted_dec Accepted = yes refl
-accepted_dec (Refused r) = no (refused r)
+accepted_dec : (v : Verdict) → Dec (v ≡ Ok tt)
+accepted_dec (Ok tt) = yes refl
+accepted_dec (Err r) = no (refused r)
 
 -- 9 accepts just the kept lists of the table
-pub is_list : (T : Table) (list : List ℕ) → (list_verdict (length T.steps) list ≡ Accepted) ↔ IsList T list
+pub is_list : (T : Table) (list : List ℕ) → (list_verdict (length T.steps) list ≡ Ok tt) ↔ IsList T list
 unfolding list_verdict
 is_list T list = (
   λ e.
@@ -120,7 +120,7 @@ tests_passed T list = (
   λ r. parts_and _ (root_marked T list) (parts_and (is_total T list) (keeps_initial T list) r.0 r.1) r.2,
 )
 
-tests_accepted : (T : Table) (list : List ℕ) → (narrow_tests T list ≡ Accepted) ↔ ((is_repair T list ≡ true) × (leaves_reached T list ≡ true))
+tests_accepted : (T : Table) (list : List ℕ) → (narrow_tests T list ≡ Ok tt) ↔ ((is_repair T list ≡ true) × (leaves_reached T list ≡ true))
 tests_accepted T list = (
   λ e.
       let r = then_accepted _ _ e in
@@ -146,15 +146,15 @@ module _ (T : Table) (wf : Wellformed T) (list : List ℕ) (form : IsList T list
   )
 
   -- 11, 12, 16 and 13 accept just the repairs in the narrower sense.
-  pub narrow_decided : (narrow_tests T list ≡ Accepted) ↔ NarrowRepair T list
+  pub narrow_decided : (narrow_tests T list ≡ Ok tt) ↔ NarrowRepair T list
   narrow_decided = Iff.trans (tests_accepted T list) (
     λ r. record { repair = repair_decided.0 r.0; reached = (leaves_reached_lem T wf list).0 r.1 },
     λ r. (repair_decided.1 r.repair, (leaves_reached_lem T wf list).1 r.reached),
   )
 
 -- Of an accepted table, the judge accepts just the repairs in the narrower sense.
-pub judge_accepts_repairs : (table list : List ℕ) → Wellformed (table_of table) → table_verdict table ≡ Accepted
-    → (judge_verdict table list ≡ Accepted) ↔ NarrowRepair (table_of table) list
+pub judge_accepts_repairs : (table list : List ℕ) → Wellformed (table_of table) → table_verdict table ≡ Ok tt
+    → (judge_verdict table list ≡ Ok tt) ↔ NarrowRepair (table_of table) list
 unfolding judge_verdict
 judge_accepts_repairs table list wf accepted = (
   λ e.
@@ -170,7 +170,7 @@ judge_accepts_repairs table list wf accepted = (
 pub repair_dec : (T : Table) → Wellformed T → (list : List ℕ) → Dec (Repair T list)
 repair_dec T wf list = go (accepted_dec (list_verdict (length T.steps) list))
   where
-    go : Dec (list_verdict (length T.steps) list ≡ Accepted) → Dec (Repair T list)
+    go : Dec (list_verdict (length T.steps) list ≡ Ok tt) → Dec (Repair T list)
     go (yes e) = Dec.of_iff (repair_decided T wf list ((is_list T list).0 e)) (true_dec (is_repair T list))
     go (no n) = no (λ r. n ((is_list T list).1 r.form))
 

@@ -2,8 +2,8 @@
 -- a fullpath of both.
 use Prim.Native.Nat.{ℕ, zero, suc}
 use mathlib.Core.Logic.{⊎_map}
-use Rattle.table.specs.declared.family.Family.{Family}
-use Rattle.table.specs.declared.family.Family.TheVariants.{Release, Until, Eventually, Always}
+use Rattle.table.specs.declared.operator.Family.{Family}
+use Rattle.table.specs.declared.operator.Family.TheVariants.{Release, Until, Eventually, Always}
 use Rattle.ctl.specs.Meaning.{Formula, bottom, top, proposition, neg, both, either, ax, ex, av, ev, au, eu, af, ef, ag, eg, Fullpath, Holds}
 use Rattle.ctl.specs.Rule.{Quantifier, every, some}
 use Rattle.ctl.proofs.Paths.{OnPaths}

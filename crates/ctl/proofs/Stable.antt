@@ -10,7 +10,7 @@ use mathlib.Core.Bool.{Bool, true, false, not, cond, beq, true≢false, false≢
 use mathlib.Core.Logic.{◌⊎◌, inl, inr, ⊎_elim, ⊎_map}
 use mathlib.Core.List.{List, [], ◌∷◌}
 use lib.ListN.{length, get_or-eq_default}
-use Rattle.table.specs.declared.family.Family.{Family}
+use Rattle.table.specs.declared.operator.Family.{Family}
 use Rattle.table.specs.Accept.{all}
 use Rattle.ctl.specs.Rule.{Quantifier, every, some}
 use Rattle.ctl.specs.Levels.{has, Subset, iterate, next_in, joined, level, levels}

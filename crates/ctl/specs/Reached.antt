@@ -1,6 +1,6 @@
 -- The reached states, computed, and striking: 02, A3.
 use Rattle.std.specs.Prelude.{ℕ, Bool, cond, ◌&&◌, List, map, length, get_or}
-use Rattle.table.specs.declared.family.Family.TheVariants.{Eventually}
+use Rattle.table.specs.declared.operator.Family.TheVariants.{Eventually}
 use Rattle.table.specs.declared.record.Step.{Step}
 use Rattle.table.specs.Table.{Table, step_at}
 use Rattle.table.specs.Accept.{initial_at}

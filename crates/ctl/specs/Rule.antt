@@ -1,52 +1,15 @@
 -- The rule of a table: the formula of each node, read off the nodes, children first.
-use Rattle.std.specs.Prelude.{ℕ, ◌-◌, ◌%◌, Bool, true, false, cond, List, [], ◌∷◌, ◌++◌, eqb, length, get_or}
+use Rattle.std.specs.Prelude.{ℕ, ◌-◌, true, false, List, [], ◌∷◌, ◌++◌, length, get_or}
 use Rattle.table.specs.declared.record.Node.{Node}
-use Rattle.table.specs.declared.family.Family.{Family}
-use Rattle.table.specs.declared.family.Family.TheVariants.{Release, Until, Eventually, Always}
+use Rattle.table.specs.declared.operator.Family.TheVariants.{Release, Until, Eventually, Always}
 use Rattle.table.specs.Table.{Table}
 use Rattle.ctl.specs.Meaning.{Formula, bottom, top, proposition, neg, both, either, ax, ex, av, ev, au, eu, af, ef, ag, eg}
-
--- the path quantifier of a kind: A or E
-pub data Quantifier : Type 0 where
-  every some : Quantifier
-
--- What a node says of its children, which stand by their numbers. A fixed point has two: level 0 is the set of the second. The one child of F and G
--- stands in both places.
-pub data Operator : Type 0 where
-  constant : Bool → Operator
-  atom : ℕ → Operator
-  negation : ℕ → Operator
-  conjunction disjunction : ℕ → ℕ → Operator
-  next : Quantifier → ℕ → Operator
-  fixpoint : Family → Quantifier → ℕ → ℕ → Operator
-
--- kinds 0 to 15
-abbrev pub operators : ℕ → ℕ → List Operator
-operators a b =
-    constant false
-    ∷ constant true
-    ∷ atom a
-    ∷ negation a
-    ∷ conjunction a b
-    ∷ disjunction a b
-    ∷ next every a
-    ∷ next some a
-    ∷ fixpoint Release every a b
-    ∷ fixpoint Release some a b
-    ∷ fixpoint Until every a b
-    ∷ fixpoint Until some a b
-    ∷ fixpoint Eventually every a a
-    ∷ fixpoint Eventually some a a
-    ∷ fixpoint Always every a a
-    ∷ fixpoint Always some a a
-    ∷ []
-
--- from 6 on, an even kind is of every path and an odd one of some path
-abbrev pub quantifier_at : ℕ → Quantifier
-quantifier_at kind = cond (eqb (kind % 2) 0) every some
-
-abbrev pub operator_of : Node → Operator
-operator_of x = get_or (operators x.a x.b) x.kind (constant false)
+-- the operator that each kind puts on its children
+pub use Rattle.table.specs.declared.operator.Quantifier.{Quantifier}
+pub use Rattle.table.specs.declared.operator.Quantifier.TheVariants.{Every as every, Some as some}
+pub use Rattle.table.specs.declared.operator.Operator.{Operator}
+pub use Rattle.table.specs.declared.operator.Operator.TheVariants.{Constant as constant, Atom as atom, Negation as negation, Conjunction as conjunction, Disjunction as disjunction, Next as next, Fixpoint as fixpoint}
+pub use Rattle.table.specs.Operator.{operators, quantifier_at, operator_of}
 
 -- Values of the nodes, children first: `value` makes a node's of those of the nodes before it, and `done` has those.
 unfoldable pub bottom_up : {A : Type 0} → (Operator → (ℕ → A) → A) → A → List A → List Node → List A

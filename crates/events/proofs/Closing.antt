@@ -7,6 +7,7 @@ use mathlib.Core.Logic.{◌↔◌, ⊎_elim}
 use mathlib.Core.List.{List, [], ◌∷◌, Memᴰ}
 use lib.Dec.{eqb}
 use lib.ListN.{length, get_or}
+use Rattle.std.specs.Prelude.{Option, None, Some}
 use Rattle.table.specs.Table.{Table, step_at, node_at}
 use Rattle.table.specs.Facts.{Wellformed}
 use Rattle.table.proofs.Bools.{or_parts, or_left, or_right}
@@ -17,7 +18,6 @@ use Rattle.rows.specs.declared.row.Report.{Report}
 use Rattle.rows.specs.Words.{row_at, SmallRow, step_place}
 use Rattle.rows.specs.Steps.{step_settled}
 use Rattle.ctl.specs.Rule.{operator_of}
-use Rattle.closure.specs.declared.answer.Closure.{Closure}
 use Rattle.closure.specs.Closure.{Fails}
 use Rattle.closure.specs.Knowledge.{Knowledge, knowledge, Small, Sized, level_total, level_base, second_child, sum, total}
 use Rattle.propagate.specs.Memory.{Memory, node_place}
@@ -92,7 +92,7 @@ module _ (T : Table) where
     below = reached.sound P b.below;
   }
 
-  closed_with : {M₀ M : Memory} (c : Closure) → Reached M₀ M → ((P : List (Literal Var)) → Between T P M₀ → Closes T P c M) → Closed T c M₀ M
+  closed_with : {M₀ M : Memory} (c : Option ℕ) → Reached M₀ M → ((P : List (Literal Var)) → Between T P M₀ → Closes T P c M) → Closed T c M₀ M
   closed_with c reached closes = record {
     sized = reached.sized;
     same_words_length = reached.same_words_length;
@@ -102,7 +102,7 @@ module _ (T : Table) where
 
   -- a sweep that fails: something is forced both ways
   pub closed_failing : {Q : Knowledge → Type 0} {M₀ M M' : Memory} {r : Report} → Reached M₀ M → Advance T Q M M' r → r.fails ≡ true
-      → Closed T (record { fails = true; settled = 0 }) M₀ M'
+      → Closed T None M₀ M'
   closed_failing reached more f = closed_with _ (reached_more reached more) (λ P b.
       let x = more.clash f P (reached.sound P b.below) in
       let fails : Fails (clauses T) (λ l. Memᴰ l P) = (literal true x.0, x.1, x.2) in
@@ -136,7 +136,7 @@ module _ (T : Table) where
 
     module _ (count : ℕ) where
       rest_closes : (M : Memory) → Sized T M → Rest T (knowledge T M) → count ≡ rows_settled T M.rows
-          → (P : List (Literal Var)) → Between T P M → Closes T P (record { fails = false; settled = count }) M
+          → (P : List (Literal Var)) → Between T P M → Closes T P (Some count) M
       rest_closes M z rest counted P b =
           let all = rest_forced T wf (knowledge T M) (small_knowledge z) rest
           (λ s h t e. let x = b.below.steps s h true t e in (target_true T wf s t).1 (x.0, x.1, x.2, x.3)) P
@@ -155,9 +155,9 @@ module _ (T : Table) where
 
       pub closed_resting : {M₀ M M' : Memory} {r : Report} → Reached M₀ M → Advance T (Rest T) M M' r → r.fails ≡ false → r.changed ≡ false
           → count ≡ rows_settled T M'.rows
-          → Closed T (record { fails = false; settled = count }) M₀ M'
+          → Closed T (Some count) M₀ M'
       closed_resting {M₀} {M} {M'} reached more f c counted =
           let same = more.unchanged c in
-          subst (Closed T (record { fails = false; settled = count }) M₀) (sym same)
+          subst (Closed T (Some count) M₀) (sym same)
           (closed_with _ reached (λ P b. rest_closes M reached.sized (more.quiet c f)
           (counted ∙ ap (λ (N : Memory). rows_settled T N.rows) same) P (between_still reached P b)))

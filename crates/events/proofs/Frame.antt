@@ -10,7 +10,7 @@ use lib.Bits.{bit_and}
 use lib.Dec.{eqb}
 use lib.ListN.{length, get_or}
 use Rattle.sets.specs.Member.{member}
-use Rattle.table.specs.declared.family.Family.{Family}
+use Rattle.table.specs.declared.operator.Family.{Family}
 use Rattle.table.specs.Table.{Table, node_at}
 use Rattle.table.specs.Facts.{Wellformed}
 use Rattle.table.specs.Rows.{target_set}

@@ -1,4 +1,3 @@
-pub mod NodeLevels
 pub mod SettingFacts
 pub mod Closing
 pub mod Stays

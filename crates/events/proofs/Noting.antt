@@ -3,7 +3,6 @@ use Prim.Native.Nat.{ℕ, suc, ◌*◌, ◌-◌, ◌<◌}
 use native.Mathlib.Omega.{arith}
 use mathlib.Core.Path.{◌≡◌, refl, sym, ap, ◌∙◌}
 use mathlib.Core.Bool.{Bool, true, false, cond, true≢false, false≢true}
-use mathlib.Core.Logic.{⊎_elim}
 use mathlib.Core.List.{List}
 use borrow.Author.Tests.{eqb-true, eqb-false, eq-eqb}
 use lib.Dec.{eqb}
@@ -13,15 +12,16 @@ use Rattle.sets.proofs.Laws.{member-zero}
 use Rattle.table.specs.Table.{Table, node_at}
 use Rattle.table.specs.Facts.{Wellformed}
 use Rattle.table.specs.Rows.{target_set}
-use Rattle.table.proofs.Bools.{or_parts, or_right}
+use Rattle.table.proofs.Bools.{or_right}
 use Rattle.ctl.specs.Rule.{Operator, constant, atom, negation, conjunction, disjunction, next, fixpoint, operator_of}
-use Rattle.ctl.proofs.BottomUp.{Below, children_below}
+use Rattle.ctl.proofs.BottomUp.{children_below}
 use Rattle.rows.specs.declared.row.Row.{Row}
 use Rattle.rows.specs.Row.{known}
 use Rattle.rows.specs.Words.{row_at}
 use Rattle.propagate.specs.Memory.{Memory, node_row}
 use Rattle.readers.specs.Reads.{is_child, has_levels, AgreeAt, AgreeOn}
 use Rattle.readers.specs.Readers.{AreReaders, NodeMarked, KeptMarked, StepsMarked, Differ}
+use Rattle.readers.proofs.NodeReads.{child_below}
 use Rattle.closure.specs.Knowledge.{Knowledge, knowledge, level_size, second_child}
 use Rattle.events.specs.Watched.{SameKept, SameNode, Noted}
 use Rattle.closure.proofs.InsideParts.{word_place}
@@ -40,16 +40,6 @@ pub same_differ : (r q : Row) → q ≡ r → Differ r q 0
 same_differ r q e t out sign = ap (λ (x : Row). known x sign t) e
 
 -- ---- children
-
--- a child has a lower number
-pub child_below : (i : ℕ) (o : Operator) → Below i o → (c : ℕ) → is_child o c ≡ true → c < i
-child_below i (constant b) l c e = absurd (false≢true e)
-child_below i (atom p) l c e = absurd (false≢true e)
-child_below i (negation a) l c e = omega (arith, l, eqb-true a c e)
-child_below i (conjunction a b) l c e = ⊎_elim (λ f. omega (arith, l.0, eqb-true a c f)) (λ f. omega (arith, l.1, eqb-true b c f)) (or_parts (eqb a c) (eqb b c) e)
-child_below i (disjunction a b) l c e = ⊎_elim (λ f. omega (arith, l.0, eqb-true a c f)) (λ f. omega (arith, l.1, eqb-true b c f)) (or_parts (eqb a c) (eqb b c) e)
-child_below i (next q a) l c e = omega (arith, l, eqb-true a c e)
-child_below i (fixpoint fam q a b) l c e = ⊎_elim (λ f. omega (arith, l.0, eqb-true a c f)) (λ f. omega (arith, l.1, eqb-true b c f)) (or_parts (eqb a c) (eqb b c) e)
 
 -- the second child of a node with levels is a child, and its levels have words
 second_child_lem : (o : Operator) → has_levels o ≡ true → is_child o (second_child o) ≡ true

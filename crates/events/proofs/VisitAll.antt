@@ -7,6 +7,8 @@ use mathlib.Core.Bool.{Bool, true, false, true≢false, false≢true}
 use mathlib.Core.Logic.{◌⊎◌, inl, inr}
 use mathlib.Core.List.{List}
 use lib.ListN.{get_or}
+use Rattle.std.specs.Prelude.{Option, None, Some}
+use Rattle.std.specs.Option.{ForSome}
 use Rattle.sets.specs.Member.{member}
 use Rattle.sets.proofs.Laws.{member-zero}
 use Rattle.table.specs.Table.{Table, node_at}
@@ -16,11 +18,11 @@ use Rattle.rows.specs.declared.row.Report.{Report}
 use Rattle.rows.specs.Words.{row_at, both_reports}
 use Rattle.propagate.specs.Memory.{Memory, node_place, failing, ordered}
 use Rattle.propagate.proofs.Ordered.{ordered-below, ordered_twice}
-use Rattle.readers.specs.Readers.{AreReaders, StepsMarked}
+use Rattle.readers.specs.Readers.{AreReaders}
 use Rattle.closure.specs.Knowledge.{Knowledge, knowledge, Sized, second_child}
 use Rattle.closure.specs.Rest.{RestStart, Rest}
 use Rattle.events.specs.Watched.{Watched, RestBut}
-use Rattle.events.specs.Looked.{Always, Swept, Looked}
+use Rattle.events.specs.Looked.{Always, Swept, Looked, FirstLooks}
 use Rattle.closure.proofs.Advances.{advance_failing, advance_failed}
 use Rattle.closure.proofs.InsideParts.{level_last}
 use Rattle.events.proofs.Noting.{out_of}
@@ -33,16 +35,15 @@ pub looked_none : (T : Table) (looks : List ℕ) (M : Memory) → Sized T M → 
 looked_none T looks M sized = looked_so (λ f k e. absurd e) (λ z. tt) (looked_still looks (advance_failing T false M sized (λ e. absurd (false≢true e))) refl)
 
 -- all is to be looked at, or all is at rest but what reads the steps out of a state of a set, whose readers are in their words
-pub first_watched : (T : Table) → Wellformed T → (readers looks : List ℕ) → AreReaders T readers → (fresh : Bool) (changed : ℕ) (K : Knowledge)
-    → (fresh ≡ true → (k s : ℕ) → k < 33 → s < 32 → member (get_or looks k 0) s ≡ true) → (fresh ≡ false → StepsMarked readers looks changed)
-    → (fresh ≡ false → RestBut T changed K) → Watched T looks K
-first_watched T wf readers looks reads true changed K all marked rest = record {
-  kept = λ s l out. absurd (true≢false (sym (all refl 32 s (omega arith) (omega (arith, wf.few_states))) ∙ out));
-  nodes = λ i h s l out. absurd (true≢false (sym (all refl i s (omega (arith, wf.few_nodes)) (omega (arith, wf.few_states))) ∙ out));
+pub first_watched : (T : Table) → Wellformed T → (readers looks : List ℕ) → AreReaders T readers → (changed : Option ℕ) (K : Knowledge)
+    → FirstLooks readers changed looks → ForSome changed (λ set. RestBut T set K) → Watched T looks K
+first_watched T wf readers looks reads None K all rest = record {
+  kept = λ s l out. absurd (true≢false (sym (all 32 s (omega arith) (omega (arith, wf.few_states))) ∙ out));
+  nodes = λ i h s l out. absurd (true≢false (sym (all i s (omega (arith, wf.few_nodes)) (omega (arith, wf.few_states))) ∙ out));
 }
-first_watched T wf readers looks reads false changed K all marked rest = record {
-  kept = λ s l out. (rest refl).kept s l (out_of changed (get_or looks 32 0) s ((marked refl).kept s) out);
-  nodes = λ i h s l out. (rest refl).nodes i h s l (λ e. out_of changed (get_or looks i 0) s ((marked refl).nodes i s (reads.of_steps i h e)) out);
+first_watched T wf readers looks reads (Some set) K marked rest = record {
+  kept = λ s l out. (rest set refl).kept s l (out_of set (get_or looks 32 0) s (marked.kept s) out);
+  nodes = λ i h s l out. (rest set refl).nodes i h s l (λ e. out_of set (get_or looks i 0) s (marked.nodes i s (reads.of_steps i h e)) out);
 }
 
 -- ---- the first k of the nodes
@@ -64,9 +65,11 @@ among_next down f k i e a b = looked_so (λ z c m. go c m (dec_lt m.0 k)) (λ z.
     go c m (no d) = inr (m.2 ∙ ap (ordered down f) (let l = m.1 in let last : m.0 ≡ k = omega (arith, d) in last) ∙ sym e)
 
 -- each has had its turn
-pub among_all : {T : Table} (down : Bool) (f : ℕ) {looks looks' : List ℕ} {M N : Memory} {r : Report} (k : ℕ) → k ≡ f
-    → Looked T (Among down f k) Always looks looks' M N r → Looked T (λ c. c < f) Always looks looks' M N r
-among_all down f k e a = looked_so (λ z c l. (ordered down f c, subst (λ (n : ℕ). ordered down f c < n) (sym e) (ordered-below down f c l), sym (ordered_twice down f c l))) (λ z. tt) a
+pub among_all : {T : Table} (down : Bool) (f : ℕ) {looks looks' : List ℕ} {M N : Memory} {r : Report} (k count : ℕ) → k ≡ f → f ≡ count
+    → Looked T (Among down f k) Always looks looks' M N r → Looked T (λ c. c < count) Always looks looks' M N r
+among_all down f k count e is a = looked_so (λ z c l.
+    let inside : c < f = omega (arith, l, is) in
+    (ordered down f c, subst (λ (n : ℕ). ordered down f c < n) (sym e) (ordered-below down f c inside), sym (ordered_twice down f c inside))) (λ z. tt) a
 
 -- something is known both ways: nothing is said of the words, nor of the rows
 pub looked_failed : {T : Table} {D E : ℕ → Type 0} {P Q : Knowledge → Type 0} {looks looks' : List ℕ} {M N : Memory} {r : Report} → r.fails ≡ true

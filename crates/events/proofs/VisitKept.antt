@@ -1,5 +1,5 @@
 -- Looking at K and at the initial states: where nothing was added they are at rest, and else the readers of what changed are in their words.
-use Prim.Native.Nat.{ℕ, ◌+◌, ◌-◌, ◌^◌, ◌<◌}
+use Prim.Native.Nat.{ℕ, ◌+◌, ◌^◌, ◌<◌}
 use native.Mathlib.Omega.{arith}
 use native.Mathlib.Decide.{ℕ_discrete}
 use mathlib.Core.Path.{◌≡◌, refl, sym, ap, subst, ◌∙◌}
@@ -9,7 +9,7 @@ use lib.ListN.{length, get_or, set}
 use lib.Seq.{get_or-set_other}
 use Rattle.sets.specs.Member.{member}
 use Rattle.sets.proofs.Walk.{others}
-use Rattle.table.specs.Table.{Table, table_of}
+use Rattle.table.specs.Table.{Table}
 use Rattle.table.specs.Facts.{Wellformed}
 use Rattle.table.specs.Rows.{target_set}
 use Rattle.ctl.specs.Rule.{root_index}
@@ -19,10 +19,10 @@ use Rattle.rows.specs.Words.{row_at, both_reports, quiet}
 use Rattle.propagate.specs.Memory.{Memory, memory, stepped, node_place, kept_place, node_row, Stepped}
 use Rattle.readers.specs.Readers.{AreReaders, Raised, NodeMarked, StepsMarked, KeptMarked, Differ, grown}
 use Rattle.readers.proofs.MarkLaws.{Gone, gone_first, gone_next, gone_last, node_unchanged, steps_unchanged, grown_differ}
-use Rattle.closure.specs.declared.net.Net.{Net}
 use Rattle.closure.specs.Knowledge.{Knowledge, Sized}
 use Rattle.closure.specs.Rest.{initial_set, RestKept, RestStart}
-use Rattle.events.specs.Setting.{Setting}
+use Rattle.events.specs.declared.net.Net.{Net}
+use Rattle.events.specs.NetTable.{table_in}
 use Rattle.closure.specs.MemoryRules.{kept_step, start_step}
 use Rattle.closure.specs.Advance.{Advance}
 use Rattle.events.specs.Watched.{Watched}
@@ -161,7 +161,7 @@ module _ (T : Table) (wf : Wellformed T) where
   pub start_calm : (looks : List ℕ) (M N : Memory) (r : Report) → Advance T (RestStart T) M N r → quiet r ≡ true → Looked T (λ k. ⊥) (RestStart T) looks looks M N r
   start_calm looks M N r a calm = looked_so (λ f k e. absurd e) (λ z. z) (looked_still looks a calm)
 
--- the counts of a setting are the table's
-pub start_does : {table targets bases readers : List ℕ} (net : Net) (g : Setting table net targets bases readers) (M N : Memory) (r : Report) → Sized (table_of table) M
-    → record { memory = N; report = r } ≡ start_step net.initial (net.nodes - 1) M → Starts (table_of table) (wellformed g) (net.nodes - 1) M N r
-start_does {table} net g = starts (table_of table) (wellformed g) net.initial (net.nodes - 1) (ap (λ (k : Net). k.initial) g.counts) (ap (λ (k : Net). k.nodes - 1) g.counts)
+-- the initial states of a net and its root are the table's
+pub start_does : (net : Net) (root : ℕ) → root ≡ root_index (table_in net) → (M N : Memory) (r : Report) → Sized (table_in net) M
+    → record { memory = N; report = r } ≡ start_step net.initial root M → Starts (table_in net) (wellformed net) root M N r
+start_does net root = starts (table_in net) (wellformed net) net.initial root net.setting.initial_states

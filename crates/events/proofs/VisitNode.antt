@@ -16,10 +16,9 @@ use Rattle.sets.proofs.Laws.{member-zero}
 use Rattle.sets.proofs.SetOf.{in_set}
 use borrow.Author.Tests.{lt-ltb, ltb-true}
 use Rattle.table.specs.declared.record.Node.{Node}
-use Rattle.table.specs.Table.{Table, table_of, node_at}
-use Rattle.table.specs.Family.{second_of}
-use Rattle.table.proofs.Accepted.{accepted}
-use Rattle.table.proofs.ReadNode.{ReadNode}
+use Rattle.table.specs.Table.{Table, node_at}
+use Rattle.table.specs.Second.{second_of}
+use Rattle.table.proofs.Facts.{accepted}
 use Rattle.table.specs.Facts.{Wellformed}
 use Rattle.ctl.specs.Rule.{Operator, operator_of}
 use Rattle.rows.specs.declared.row.Report.{Report}
@@ -31,9 +30,9 @@ use Rattle.readers.specs.Reads.{is_child, has_levels}
 use Rattle.readers.specs.Readers.{AreReaders, Raised, NodeMarked, StepsMarked, Differ, grown}
 use Rattle.readers.proofs.MarkLaws.{node_unchanged, grown_differ, raised_then, marked_more}
 use Rattle.readers.proofs.NodeReads.{child_is}
-use Rattle.closure.specs.declared.net.Net.{Net}
 use Rattle.closure.specs.Knowledge.{Knowledge, Sized, level_base, level_size}
-use Rattle.events.specs.Setting.{Setting}
+use Rattle.events.specs.declared.net.Net.{Net}
+use Rattle.events.specs.NetTable.{table_in}
 use Rattle.closure.specs.MemoryRules.{node_step}
 use Rattle.closure.specs.Rest.{RestNode}
 use Rattle.closure.specs.Advance.{Advance}
@@ -44,7 +43,7 @@ use Rattle.closure.proofs.AddAdvance.{rows_small}
 use Rattle.closure.proofs.Advances.{advance_so, Advances, advance_failing}
 use Rattle.closure.proofs.Masked.{OfStates}
 use Rattle.closure.proofs.NodeAdvance.{NodeRest, node_advance}
-use Rattle.events.proofs.SettingFacts.{wellformed, states_are, nodes_are, few_nodes}
+use Rattle.events.proofs.SettingFacts.{wellformed, low}
 use Rattle.events.proofs.Stays.{node_stays}
 use Rattle.closure.proofs.InsideParts.{word_place}
 use Rattle.events.proofs.Noting.{same_differ, level_words, noted}
@@ -152,12 +151,12 @@ pub visit_none : (T : Table) (M : Memory) → Sized T M → (looks : List ℕ) (
 visit_none T M sized looks i none = looked_so (λ f k e. ap (λ (j : ℕ). get_or looks j 0) e ∙ none) (λ z. z)
     (looked_still looks (advance_so T {Q = Always} (λ z. tt) (advance_failing T false M sized (λ e. absurd (false≢true e)))) refl)
 
-module _ {table : List ℕ} {net : Net} {targets bases readers : List ℕ} (g : Setting table net targets bases readers)
-    (rows words rows' words' looks : List ℕ) (sized : Sized (table_of table) (memory rows words)) (few : length looks ≡ 33)
-    (i : ℕ) (h : i < net.nodes) (down : Bool) (x : Node) (read : ReadNode table i x) (all : ℕ) (is_all : all ≡ set_of 32 (λ t. ltb t net.states)) (r : Report)
-    (did : stepped rows' words' r ≡ node_step table targets bases net.states (bit_and (get_or looks i 0) all) down i (operator_of x) (memory rows words)) where
+module _ (net : Net) (rows words rows' words' looks : List ℕ) (sized : Sized (table_in net) (memory rows words)) (few : length looks ≡ 33)
+    (i : ℕ) (h : i < length (table_in net).nodes) (down : Bool) (x : Node) (read : x ≡ node_at (table_in net) i)
+    (all : ℕ) (is_all : all ≡ set_of 32 (λ t. ltb t net.graph.states)) (r : Report)
+    (did : stepped rows' words' r ≡ node_step net.table.bytes.now net.graph.targets net.bases net.graph.states (bit_and (get_or looks i 0) all) down i (operator_of x) (memory rows words)) where
   abbrev T : Table
-  T = table_of table
+  T = table_in net
 
   abbrev look : ℕ
   look = bit_and (get_or looks i 0) all
@@ -168,47 +167,47 @@ module _ {table : List ℕ} {net : Net} {targets bases readers : List ℕ} (g : 
   abbrev N : Memory
   N = memory rows' words'
 
-  inside : i < length T.nodes
-  inside = omega (arith, nodes_are g)
+  abbrev step_of : ℕ → Node → Stepped
+  step_of m y = node_step net.table.bytes.now net.graph.targets net.bases m look down i (operator_of y) M
 
   all_are : all ≡ set_of 32 (λ t. ltb t (length T.states))
-  all_are = is_all ∙ ap (λ (n : ℕ). set_of 32 (λ t. ltb t n)) (states_are g)
+  all_are = is_all ∙ ap (λ (m : ℕ). set_of 32 (λ t. ltb t m)) net.setting.states
 
-  of_table : stepped rows' words' r ≡ node_step table targets bases (length T.states) look down i (operator_at T i) M
-  of_table = did ∙ ap (λ (n : ℕ). node_step table targets bases n look down i (operator_of x) M) (states_are g)
-      ∙ ap (λ (y : Node). node_step table targets bases (length T.states) look down i (operator_of y) M) read.here
+  of_table : stepped rows' words' r ≡ step_of (length T.states) (node_at T i)
+  of_table = did ∙ (λ j. step_of (net.setting.states j) (read j))
 
   advances : Advance T (NodeRest T i (operator_at T i) look) M N r
   advances = subst (λ (s : Stepped). Advances T (NodeRest T i (operator_at T i) look) M s) (sym of_table)
-      (node_advance table (accepted table g.accepted) targets bases g.targets_at g.bases_at look (word_inside T (get_or looks i 0) all all_are) down i inside M sized)
+      (node_advance net.table.bytes.now (accepted net.table.bytes.now net.table.passes) net.graph.targets net.bases net.setting.targets_at net.setting.bases_at look
+      (word_inside T (get_or looks i 0) all all_are) down i h M sized)
 
   stays : Stays (λ j. (j ≡ i) ⊎ (is_child (operator_at T i) j ≡ true)) ⊥ (λ k. (level_base T i ≤ k) × (k < level_base T i + level_size (length T.states) (operator_at T i))) M N r
   stays = subst (λ (s : Stepped). Stays (λ j. (j ≡ i) ⊎ (is_child (operator_at T i) j ≡ true)) ⊥ (λ k. (level_base T i ≤ k) × (k < level_base T i + level_size (length T.states) (operator_at T i))) M s.memory s.report)
       (sym of_table)
-      (node_stays table targets bases (wellformed g) look down i inside M sized (g.bases_at i (omega (arith, few_nodes g))))
+      (node_stays net.table.bytes.now net.graph.targets net.bases (wellformed net) look down i h M sized (net.setting.bases_at i (low net i h)))
 
-  pub visit_sized : Sized (table_of table) (memory rows' words')
+  pub visit_sized : Sized (table_in net) (memory rows' words')
   visit_sized = advances.sized
 
-  pub visit_calm : quiet r ≡ true → Looked (table_of table) (λ k. k ≡ i) Always looks (set looks i 0) (memory rows words) (memory rows' words') r
-  visit_calm calm = node_calm T (wellformed g) i inside M N sized r looks few look (word_here T (wellformed g).few_states (get_or looks i 0) all all_are) advances calm
+  pub visit_calm : quiet r ≡ true → Looked (table_in net) (λ k. k ≡ i) Always looks (set looks i 0) (memory rows words) (memory rows' words') r
+  visit_calm calm = node_calm T (wellformed net) i h M N sized r looks few look (word_here T (wellformed net).few_states (get_or looks i 0) all all_are) advances calm
 
   pub visit_loud : quiet r ≡ false → (b : ℕ) → b ≡ second_of x → (one two three four looks' : List ℕ)
       → Raised looks one → ((s : ℕ) → member all s ≡ true → member (get_or one i 0) s ≡ true)
-      → Raised one two → NodeMarked readers two i (grown (row_at rows (node_place i)) (row_at rows' (node_place i)))
-      → Raised two three → NodeMarked readers three x.a (grown (row_at rows (node_place x.a)) (row_at rows' (node_place x.a)))
-      → Raised three four → NodeMarked readers four b (grown (row_at rows (node_place b)) (row_at rows' (node_place b)))
-      → Raised four looks' → StepsMarked readers looks' r.steps
-      → Looked (table_of table) (λ k. k ≡ i) Always looks looks' (memory rows words) (memory rows' words') r
+      → Raised one two → NodeMarked net.readers two i (grown (row_at rows (node_place i)) (row_at rows' (node_place i)))
+      → Raised two three → NodeMarked net.readers three x.a (grown (row_at rows (node_place x.a)) (row_at rows' (node_place x.a)))
+      → Raised three four → NodeMarked net.readers four b (grown (row_at rows (node_place b)) (row_at rows' (node_place b)))
+      → Raised four looks' → StepsMarked net.readers looks' r.steps
+      → Looked (table_in net) (λ k. k ≡ i) Always looks looks' (memory rows words) (memory rows' words') r
   visit_loud loud b second one two three four looks' up_one here up-two own up-three first up-four other up steps =
-      node_loud T (wellformed g) i inside M N sized r readers looks looks' g.reads advances loud stays
+      node_loud T (wellformed net) i h M N sized r net.readers looks looks' net.setting.reads advances loud stays
       (raised_then up_one (raised_then up-two (raised_then up-three (raised_then up-four up))))
       (λ s l. (raised_then up-two (raised_then up-three (raised_then up-four up))).stays i s (here s (in_all s l)))
-      (λ j. ⊎_elim (λ e. moved j i e (marked_more (raised_then up-three (raised_then up-four up)) own)) (λ e. child j (child_is x j (ap (λ (y : Node). is_child (operator_of y) j) read.here ∙ e))))
+      (λ j. ⊎_elim (λ e. moved j i e (marked_more (raised_then up-three (raised_then up-four up)) own)) (λ e. child j (child_is x j (ap (λ (y : Node). is_child (operator_of y) j) read ∙ e))))
       steps
     where
       Marked : ℕ → Type 0
-      Marked j = NodeMarked readers looks' j (grown (node_row M j) (node_row N j))
+      Marked j = NodeMarked net.readers looks' j (grown (node_row M j) (node_row N j))
 
       moved : (j k : ℕ) → j ≡ k → Marked k → Marked j
       moved j k e = subst Marked (sym e)
@@ -217,4 +216,4 @@ module _ {table : List ℕ} {net : Net} {targets bases readers : List ℕ} (g : 
       child j = ⊎_elim (λ e. moved j x.a e (marked_more (raised_then up-four up) first)) (λ e. moved j b (e ∙ sym second) (marked_more up other))
 
       in_all : (s : ℕ) → s < length T.states → member all s ≡ true
-      in_all s l = subst (λ (w : ℕ). member w s ≡ true) (sym all_are) ((in_set 32 (λ t. ltb t (length T.states)) s).1 (omega (arith, (wellformed g).few_states), lt-ltb s _ l))
+      in_all s l = subst (λ (w : ℕ). member w s ≡ true) (sym all_are) ((in_set 32 (λ t. ltb t (length T.states)) s).1 (omega (arith, (wellformed net).few_states), lt-ltb s _ l))

@@ -1,3 +1,4 @@
 pub mod Watched
 pub mod Setting
+pub mod NetTable
 pub mod Looked

@@ -1,10 +1,11 @@
 -- What looking at cells does, by the words of the states to look at before and after it.
-use Rattle.std.specs.Prelude.{ℕ, ◌<◌, ◌≡◌, true, false, ◌⊎◌, List, length, get_or}
+use Rattle.std.specs.Prelude.{ℕ, ◌<◌, ◌≡◌, true, false, ◌⊎◌, List, Option, None, Some, length, get_or}
 use Rattle.sets.specs.Member.{member}
 use Rattle.table.specs.Table.{Table}
 use Rattle.rows.specs.declared.row.Report.{Report}
 use Rattle.rows.specs.Words.{row_at, step_place}
 use Rattle.propagate.specs.Memory.{Memory, kept_place, node_row}
+use Rattle.readers.specs.Readers.{StepsMarked}
 use Rattle.closure.specs.Knowledge.{Knowledge, knowledge}
 use Rattle.closure.specs.Advance.{Founded, Advance}
 use Rattle.closure.specs.Rest.{RestKept}
@@ -13,6 +14,11 @@ use Rattle.events.specs.Watched.{Watched}
 -- nothing is said
 abbrev pub Always : Knowledge → Type 0
 Always K = Unit {0}
+
+-- at first every word has all states; or, where the steps out of a set of states have changed, those that read them
+abbrev pub FirstLooks : List ℕ → Option ℕ → List ℕ → Type 0
+FirstLooks readers None looks = (k s : ℕ) → k < 33 → s < 32 → member (get_or looks k 0) s ≡ true
+FirstLooks readers (Some set) looks = StepsMarked readers looks set
 
 -- What stays as it was: the steps but those out of the states that the report names, the rows of the nodes but those of `Node`, the row of K unless
 -- `Kept`, and the words but those of `Word`.

@@ -1,49 +1,33 @@
 // All nodes of a table, one after the other.
-ghost use Rattle.std.specs.Prelude.{◌≡◌, ◌<◌, length};
-ghost use Rattle.table.specs.Table.{table_of};
+ghost use Rattle.std.specs.Prelude.{◌<◌, length};
 ghost use Rattle.propagate.specs.Memory.{memory};
 ghost use Rattle.closure.specs.Knowledge.{Sized};
-ghost use Rattle.events.specs.Setting.{Setting};
+ghost use Rattle.events.specs.NetTable.{table_in};
 ghost use Rattle.events.specs.Looked.{Looked, Always};
 
+use crate::net::Net;
 use crate::visit::node_visit;
-use closure::Net;
 use rows::{Report, both};
 
-// Upward or downward, until something is known both ways.
+// Upward or downward, until something is known both ways. `down` is the order of the same visits, and picks no other step.
 pub fn nodes_visit(
-    table: &[u8],
-    net: Net,
-    targets: &[u32],
-    bases: &[usize],
-    readers: &[u32],
-    rows: &mut [u32],
+    net: &Net<'_>,
+    rows: &mut [u32; 130],
     words: &mut [u32],
-    looks: &mut [u32],
+    looks: &mut [u32; 33],
     down: bool,
 ) -> Report
-    requires setting { Setting table.now net targets.now bases.now readers.now }
-    requires sized { Sized (table_of table.now) (memory rows.old words.old) }
-    requires looks_len { length looks.old ≡ 33 }
-    ensures { Looked (table_of table.now) (λ k. k < net.nodes) Always looks.old looks.new (memory rows.old words.old) (memory rows.new words.new) result }
+    requires { Sized (table_in net.now) (memory rows.old words.old) }
+    ensures { Looked (table_in net.now) (λ k. k < length (table_in net.now).nodes) Always looks.old looks.new (memory rows.old words.old) (memory rows.new words.new) result }
 {
-    let f = net.nodes;
-    let mut report = Report {
-        changed: false,
-        fails: false,
-        steps: 0,
-    };
-    let mut k = 0;
-    while k < f {
+    let f = net.table.node_count();
+    let mut report = Report::default();
+    for k in 0..f {
         let i = if down { f - 1 - k } else { k };
-        let r = node_visit(
-            table, net, targets, bases, readers, rows, words, looks, down, i,
-        );
-        report = both(report, r);
+        report = both(report, node_visit(net, rows, words, looks, down, i));
         if report.fails {
             return report;
         }
-        k += 1;
     }
     report
 }

@@ -3,13 +3,13 @@
 
 mod input;
 
-use input::{Input, read_input};
+use input::read_input;
 use std::process::ExitCode;
 
 // A byte more than a sheet may have tells that it is longer.
 fn main(rt: HostRuntime) -> ExitCode {
     let mut text = [0u8; 4097];
-    let Input::Bytes(n) = read_input(&mut rt.stdin(), &mut text) else {
+    let Ok(n) = read_input(&mut rt.stdin(), &mut text) else {
         return ExitCode::FAILURE;
     };
     let mut out = [0u8; 2048];

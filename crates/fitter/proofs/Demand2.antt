@@ -5,7 +5,7 @@ use mathlib.Core.List.{List}
 use borrow.Author.Tests.{le-leb}
 use lib.ListN.{length}
 use Rattle.table.specs.declared.refusal.Refusal.TheVariants.{ShortBuffer, NotTotal}
-use Rattle.table.specs.declared.refusal.Verdict.TheVariants.{Accepted}
+use Rattle.std.specs.Prelude.{Ok}
 use Rattle.table.specs.Table.{table_of}
 use Rattle.table.specs.Accept.{table_verdict, list_verdict}
 use Rattle.table.proofs.Verdicts.{accepted_then, accepted_require}
@@ -16,7 +16,7 @@ use Rattle.label.proofs.Exact.{label_exact}
 use Rattle.fitter.specs.Demand2.{TotalList, Demand2}
 
 -- every test of Label passes
-label_accepted : (table list buffer : List ℕ) → TotalList table list buffer → label_verdict table list (length buffer) ≡ Accepted
+label_accepted : (table list buffer : List ℕ) → TotalList table list buffer → label_verdict table list (length buffer) ≡ Ok tt
 unfolding analysis_verdict
 label_accepted table list buffer g =
     accepted_then (table_verdict table) _ g.accepted

@@ -7,11 +7,11 @@ use mathlib.Core.Option.{some}
 use native.Mathlib.Omega.{arith}
 use lib.ListN.{length, take, drop}
 use lib.Seq.{take_at}
-use Rattle.table.specs.declared.refusal.Verdict.TheVariants.{Accepted}
+use Rattle.std.specs.Prelude.{Ok}
 use Rattle.table.specs.Buffer.{on_accepted}
 use Rattle.table.specs.Table.{Table, table_of}
 use Rattle.table.specs.Facts.{Wellformed}
-use Rattle.table.proofs.Accepted.{accepted}
+use Rattle.table.proofs.Facts.{accepted}
 use Rattle.ctl.specs.Kept.{Struck, Repair, NarrowRepair}
 use Rattle.ctl.specs.Price.{list_price}
 use Rattle.ctl.specs.Rank.{Cheapest}
@@ -24,7 +24,7 @@ use Rattle.search.specs.TableSearch.{search_under, search_free, list_of}
 use Rattle.search.specs.Right.{choices, settled, SearchIsRight}
 use Rattle.search.proofs.Right.{search_is_right}
 use Rattle.search.proofs.UnderCap.{under_cap, same_settled}
-use Rattle.repair.specs.declared.answer.Answer.TheVariants.{Found, None, Spent}
+use Rattle.search.specs.declared.outcome.Outcome.TheVariants.{Found, None, Spent}
 use Rattle.repair.specs.Outcome.{repair_verdict, answer_of, written_after, answer_at, repair_answer, repair_list}
 use Rattle.repair.specs.Answer.{answer_choices, answer_settled}
 use Rattle.repair.proofs.Answered.{found_back, none_back, spent_back, choices_of, settled_of}
@@ -42,7 +42,7 @@ module _ (table : List ℕ) (cap : ℕ) (list bytes words : List ℕ) (g : LongE
   right = search_is_right T wf
 
   -- no test refuses
-  fits : repair_verdict table list bytes words ≡ Accepted
+  fits : repair_verdict table list bytes words ≡ Ok tt
   fits = long_enough table list bytes words g.accepted g.list_long g.bytes_long g.words_long
 
   answered : (o : Outcome) → search_under T cap ≡ o → repair_answer table cap list bytes words ≡ answer_of o
@@ -68,7 +68,7 @@ module _ (table : List ℕ) (cap : ℕ) (list bytes words : List ℕ) (g : LongE
       ∙ take_at (strike T (list_of T m)) (drop (length T.steps) list) (length T.steps) (strike-length T (list_of T m))
 
   -- a list is found: the cheapest of all repairs, with its price, and it is written struck
-  found_list : (p c k : ℕ) → repair_answer table cap list bytes words ≡ Found p c k
+  found_list : (p c k : ℕ) → repair_answer table cap list bytes words ≡ Ok (Found p c k)
       → (before : List ℕ)
       × Cheapest (list_price T) (Repair T) before
       × (p ≡ list_price T before)
@@ -79,28 +79,28 @@ module _ (table : List ℕ) (cap : ℕ) (list bytes words : List ℕ) (g : LongE
       let cheapest = right.found_cheapest m p c k (found_free m p c k b.1.1) in
       (list_of T m, cheapest.0, cheapest.1, written m p c k b.1.1)
 
-  narrow : (p c k : ℕ) → repair_answer table cap list bytes words ≡ Found p c k → NarrowRepair T (take (length T.steps) (repair_list table cap list bytes words))
+  narrow : (p c k : ℕ) → repair_answer table cap list bytes words ≡ Ok (Found p c k) → NarrowRepair T (take (length T.steps) (repair_list table cap list bytes words))
   narrow p c k e =
       let f = found_list p c k e in
       subst (λ (l : List ℕ). NarrowRepair T l) (sym f.3) (striking_narrows T wf f.0 f.1.first.member.0)
 
-  spent_exact : ((c : ℕ) × (k : ℕ) × (repair_answer table cap list bytes words ≡ Spent c k)) ↔ (cap < choices (search_free T))
+  spent_exact : ((c : ℕ) × (k : ℕ) × (repair_answer table cap list bytes words ≡ Ok (Spent c k))) ↔ (cap < choices (search_free T))
   spent_exact = (
     λ r. spent_over r.0 r.1 (spent_back (repair_verdict table list bytes words) (search_under T cap) r.0 r.1 r.2).1,
     λ h. (cap, settled (search_free T), answered _ (right.spent_over cap h)),
   )
 
   module _ (h : choices (search_free T) ≤ cap) where
-    none_exact : ((c : ℕ) × (k : ℕ) × (repair_answer table cap list bytes words ≡ None c k)) ↔ ((l : List ℕ) → ¬ Repair T l)
+    none_exact : ((c : ℕ) × (k : ℕ) × (repair_answer table cap list bytes words ≡ Ok (None c k))) ↔ ((l : List ℕ) → ¬ Repair T l)
     none_exact = (
       λ r. right.none_exact.0 (r.0, r.1, sym (right.same_within cap h) ∙ (none_back (repair_verdict table list bytes words) (search_under T cap) r.0 r.1 r.2).1),
       λ no-repair. let r = right.none_exact.1 no-repair in (r.0, r.1, answered _ (within h _ r.2)),
     )
 
-    found_else : ((p : ℕ) × (c : ℕ) × (k : ℕ) × (repair_answer table cap list bytes words ≡ Found p c k)) ↔ ((l : List ℕ) × Repair T l)
+    found_else : ((p : ℕ) × (c : ℕ) × (k : ℕ) × (repair_answer table cap list bytes words ≡ Ok (Found p c k))) ↔ ((l : List ℕ) × Repair T l)
     found_else = (λ r. let f = found_list r.0 r.1 r.2 r.3 in (f.0, f.1.first.member.0), λ r. go r.0 r.1 (search_free T) refl)
       where
-        go : (l : List ℕ) → Repair T l → (o : Outcome) → search_free T ≡ o → (p : ℕ) × (c : ℕ) × (k : ℕ) × (repair_answer table cap list bytes words ≡ Found p c k)
+        go : (l : List ℕ) → Repair T l → (o : Outcome) → search_free T ≡ o → (p : ℕ) × (c : ℕ) × (k : ℕ) × (repair_answer table cap list bytes words ≡ Ok (Found p c k))
         go l repair (found m p c k) e = (p, c, k, answered (found m p c k) (within h _ e))
         go l repair (none c k) e = absurd (right.none_exact.0 (c, k, e) l repair)
         go l repair (spent c k) e = absurd (right.unspent c k e)

@@ -8,7 +8,7 @@ use mathlib.Core.List.{List, Memᴰ}
 use Rattle.std.proofs.Math.Option.{some}
 use Rattle.sets.specs.Member.{set_of, count_of}
 use Rattle.table.specs.declared.refusal.Refusal.{Refusal}
-use Rattle.table.specs.declared.refusal.Verdict.TheVariants.{Accepted, Refused}
+use Rattle.std.specs.Prelude.{Ok, Err}
 use Rattle.table.specs.Buffer.{Written}
 use Rattle.table.specs.Table.{table_of}
 use Rattle.table.specs.Accept.{initial_at}
@@ -20,13 +20,11 @@ use Rattle.circuit.specs.Variables.{variable_formula}
 use Rattle.closure.specs.Closure.{Marks}
 use Rattle.search.specs.Search.{found}
 use Rattle.search.specs.TableSearch.{search_under, list_of}
-use Rattle.label.specs.declared.holding.Holding.TheVariants.{Count, Refused as HoldingRefused}
 use Rattle.label.specs.ReadingOrder.{InReadingOrder}
 use Rattle.label.specs.Calls.{label_verdict, label_buffer, holding_verdict, holding_answer, holding_buffer}
-use Rattle.reader.specs.declared.answer.Read.TheVariants.{Length, Refused as ReadRefused}
 use Rattle.sheet.specs.Form.{Sheet, InRange, render}
 use Rattle.reader.specs.Read.{pack, read_verdict, read_answer, read_buffer}
-use Rattle.repair.specs.declared.answer.Answer.TheVariants.{Found, None, Spent, Refused as RepairRefused}
+use Rattle.search.specs.declared.outcome.Outcome.TheVariants.{Found, None, Spent}
 use Rattle.repair.specs.Answer.{answer_choices, answer_price, answer_settled}
 use Rattle.repair.specs.Outcome.{repair_verdict, repair_answer, repair_list, repair_bytes, repair_words}
 use Rattle.fitter.specs.Exports.{holding_count, read_length, repair_choices, repair_price, repair_settled}
@@ -35,9 +33,9 @@ use Rattle.fitter.specs.Exports.{holding_count, read_length, repair_choices, rep
 
 pub record AfterRepair (table : List ℕ) (cap : ℕ) (list bytes words : List ℕ) : Type 0 where
   -- "bad input gets its number": refused exactly when a test refuses, and for the first one that does
-  pub refused : (r : Refusal) → (repair_answer table cap list bytes words ≡ RepairRefused r) ↔ (repair_verdict table list bytes words ≡ Refused r)
+  pub refused : (r : Refusal) → (repair_answer table cap list bytes words ≡ Err r) ↔ (repair_verdict table list bytes words ≡ Err r)
   -- "1 to 13 .. leave every buffer untouched"
-  pub untouched : (r : Refusal) → repair_answer table cap list bytes words ≡ RepairRefused r
+  pub untouched : (r : Refusal) → repair_answer table cap list bytes words ≡ Err r
       → (repair_list table cap list bytes words ≡ list)
       × (repair_bytes table cap list bytes words ≡ bytes)
       × (repair_words table cap list bytes words ≡ words)
@@ -45,11 +43,11 @@ pub record AfterRepair (table : List ℕ) (cap : ℕ) (list bytes words : List �
       × ((before : ℕ) → repair_price (repair_answer table cap list bytes words) before ≡ before)
       × ((before : ℕ) → repair_settled (repair_answer table cap list bytes words) before ≡ before)
   -- "Found writes the first e list bytes. The rest stays." What it writes is, by 02's A3, what the search finds, struck.
-  pub found_list : (p c k : ℕ) → repair_answer table cap list bytes words ≡ Found p c k
+  pub found_list : (p c k : ℕ) → repair_answer table cap list bytes words ≡ Ok (Found p c k)
       → (m : Marks) × (search_under (table_of table) cap ≡ found m p c k) × Written (strike (table_of table) (list_of (table_of table) m)) list (repair_list table cap list bytes words)
   -- "None and spent (14, 15) touch only work buffers."
-  pub none_list : (c k : ℕ) → repair_answer table cap list bytes words ≡ None c k → repair_list table cap list bytes words ≡ list
-  pub spent_list : (c k : ℕ) → repair_answer table cap list bytes words ≡ Spent c k → repair_list table cap list bytes words ≡ list
+  pub none_list : (c k : ℕ) → repair_answer table cap list bytes words ≡ Ok (None c k) → repair_list table cap list bytes words ≡ list
+  pub spent_list : (c k : ℕ) → repair_answer table cap list bytes words ≡ Ok (Spent c k) → repair_list table cap list bytes words ≡ list
   -- "Found, none and spent carry the choices and leave the first V entries of both work buffers 0. .. The rest stays."
   pub work : (c : ℕ) → answer_choices (repair_answer table cap list bytes words) ≡ some c
       → Written (replicate (variable_formula (table_of table)) 0) bytes (repair_bytes table cap list bytes words)
@@ -66,9 +64,9 @@ pub record AfterRepair (table : List ℕ) (cap : ℕ) (list bytes words : List �
 
 pub record AfterLabel (table list buffer : List ℕ) : Type 0 where
   -- "1 to 13 .. leave every buffer untouched"
-  pub untouched : (r : Refusal) → label_verdict table list (length buffer) ≡ Refused r → label_buffer table list buffer ≡ buffer
+  pub untouched : (r : Refusal) → label_verdict table list (length buffer) ≡ Err r → label_buffer table list buffer ≡ buffer
   -- "writes f of them": entry i is the set of the states that are marked for node i; demand 2 says which those are
-  pub written : label_verdict table list (length buffer) ≡ Accepted
+  pub written : label_verdict table list (length buffer) ≡ Ok tt
       → Written (tabulate (length (table_of table).nodes) (λ i. set_of 32 (marked (table_of table) list i))) buffer (label_buffer table list buffer)
 
 -- ---- Holding
@@ -88,13 +86,13 @@ pub record RootStates (table list states : List ℕ) : Type 0 where
   pub in_order : InReadingOrder (initial_at (table_of table)) states
 
 pub record AfterHolding (table list buffer : List ℕ) : Type 0 where
-  pub refused : (r : Refusal) → (holding_answer table list (length buffer) ≡ HoldingRefused r) ↔ (holding_verdict table list (length buffer) ≡ Refused r)
+  pub refused : (r : Refusal) → (holding_answer table list (length buffer) ≡ Err r) ↔ (holding_verdict table list (length buffer) ≡ Err r)
   -- "1 to 13 .. leave every buffer untouched"
-  pub untouched : (r : Refusal) → holding_answer table list (length buffer) ≡ HoldingRefused r
+  pub untouched : (r : Refusal) → holding_answer table list (length buffer) ≡ Err r
       → (holding_buffer table list buffer ≡ buffer) × ((before : ℕ) → holding_count (holding_answer table list (length buffer)) before ≡ before)
   -- "writes the states of the root's set .., a byte each": no other list is theirs, so no order is left free. "Its answer is the number of ones in the
   -- root's set."
-  pub written : (k : ℕ) → holding_answer table list (length buffer) ≡ Count k
+  pub written : (k : ℕ) → holding_answer table list (length buffer) ≡ Ok k
       → (states : List ℕ)
       × RootStates table list states
       × ((others : List ℕ) → RootStates table list others → others ≡ states)
@@ -106,12 +104,12 @@ pub record AfterHolding (table list buffer : List ℕ) : Type 0 where
 -- ---- Read
 
 pub record AfterRead (text buffer : List ℕ) : Type 0 where
-  pub refused : (r : Refusal) → (read_answer text buffer ≡ ReadRefused r) ↔ (read_verdict text (length buffer) ≡ Refused r)
+  pub refused : (r : Refusal) → (read_answer text buffer ≡ Err r) ↔ (read_verdict text (length buffer) ≡ Err r)
   -- "1 to 13 .. leave every buffer untouched"
-  pub untouched : (r : Refusal) → read_answer text buffer ≡ ReadRefused r
+  pub untouched : (r : Refusal) → read_answer text buffer ≡ Err r
       → (read_buffer text buffer ≡ buffer) × ((before : ℕ) → read_length (read_answer text buffer) before ≡ before)
   -- "a sheet into a packed table; .. answers the length": all of the table that the text is the sheet of
-  pub written : (k : ℕ) → read_answer text buffer ≡ Length k
+  pub written : (k : ℕ) → read_answer text buffer ≡ Ok k
       → (v : Sheet)
       × InRange v
       × (text ≡ render v)

@@ -1,22 +1,27 @@
 -- What the numbers that C lends hold after a call.
-use Rattle.std.specs.Prelude.{ℕ}
+use Rattle.std.specs.Prelude.{ℕ, Result, Ok, Err}
 use Rattle.std.proofs.Math.Option.{Option, none, some}
-use Rattle.label.specs.declared.holding.Holding.{Holding}
-use Rattle.label.specs.declared.holding.Holding.TheVariants.{Count, Refused}
-use Rattle.reader.specs.declared.answer.Read.{Read}
-use Rattle.reader.specs.declared.answer.Read.TheVariants.{Length, Refused as ReadRefused}
-use Rattle.repair.specs.declared.answer.Answer.{Answer}
-use Rattle.repair.specs.Answer.{answer_choices, answer_price, answer_settled}
+use Rattle.table.specs.declared.refusal.Refusal.{Refusal}
+use Rattle.table.specs.Verdict.{refusal_number}
+use Rattle.repair.specs.Answer.{Answer, answer_choices, answer_price, answer_settled}
+
+-- what an answer gives, and after a refusal what was there before
+abbrev pub given : {A : Type 0} → Result A Refusal → A → A
+given (Ok k) before = k
+given (Err r) before = before
+
+-- 0 where a count is given, else the refusal's number
+abbrev pub count_number : {A : Type 0} → Result A Refusal → ℕ
+count_number (Ok k) = 0
+count_number (Err r) = refusal_number r
 
 -- Holding's count: that of the states where they are given, else as it was
-abbrev pub holding_count : Holding → ℕ → ℕ
-holding_count (Count k) before = k
-holding_count (Refused r) before = before
+abbrev pub holding_count : Result ℕ Refusal → ℕ → ℕ
+holding_count answer before = given answer before
 
 -- Read's length: that of the table where it is written, else as it was
-abbrev pub read_length : Read → ℕ → ℕ
-read_length (Length k) before = k
-read_length (ReadRefused r) before = before
+abbrev pub read_length : Result ℕ Refusal → ℕ → ℕ
+read_length answer before = given answer before
 
 -- Repair's choices, price and settled steps: those that the answer carries, and after a refusal as they were
 abbrev pub stored : Option ℕ → ℕ → ℕ

@@ -8,11 +8,10 @@ ghost use Rattle.label.specs.Calls.{label_verdict, label_buffer, holding_answer,
 ghost use Rattle.reader.specs.Read.{read_answer, read_buffer, read_number};
 ghost use Rattle.repair.specs.Answer.{answer_number};
 ghost use Rattle.repair.specs.Outcome.{repair_answer, repair_list, repair_bytes, repair_words};
-ghost use Rattle.fitter.specs.Exports.{holding_count, read_length, repair_choices, repair_price, repair_settled};
+ghost use Rattle.fitter.specs.Exports.{given, count_number, holding_count, read_length, repair_choices, repair_price, repair_settled};
 
-use label::Holding;
-use reader::Read;
-use repair::Answer;
+use search::Outcome;
+use table::Refusal;
 
 fn store(
     choices: &mut u64,
@@ -35,17 +34,22 @@ fn store(
 }
 
 // The number of Repair's answer, and what it carries stored: the choices, the price, 0 for none and spent, and the settled steps.
-fn store_answer(answer: Answer, choices: &mut u64, price: &mut u32, settled: &mut u32) -> u32
+fn store_answer(
+    answer: Result<Outcome, Refusal>,
+    choices: &mut u64,
+    price: &mut u32,
+    settled: &mut u32,
+) -> u32
     ensures value { result ≡ answer_number answer }
     ensures choices_after { choices.new ≡ repair_choices answer choices.old }
     ensures price_after { price.new ≡ repair_price answer price.old }
     ensures settled_after { settled.new ≡ repair_settled answer settled.old }
 {
     match answer {
-        Answer::Found(p, c, k) => store(choices, price, settled, c, p, k, 0),
-        Answer::None(c, k) => store(choices, price, settled, c, 0, k, 14),
-        Answer::Spent(c, k) => store(choices, price, settled, c, 0, k, 15),
-        Answer::Refused(refusal) => table::refusal_number(refusal),
+        Ok(Outcome::Found(p, c, k)) => store(choices, price, settled, c, p, k, 0),
+        Ok(Outcome::None(c, k)) => store(choices, price, settled, c, 0, k, 14),
+        Ok(Outcome::Spent(c, k)) => store(choices, price, settled, c, 0, k, 15),
+        Err(refused) => u32::from(refused),
     }
 }
 
@@ -91,19 +95,27 @@ pub fn fitter_label(table: &[u8], list: &[u8], out: &mut [u32]) -> u32
     table::verdict_number(label::label_nodes(table, list, out))
 }
 
+// The number of an answer that carries a count, and the count stored. After a refusal it stays.
+fn store_count<T: Copy>(answer: Result<T, Refusal>, count: &mut T) -> u32
+    ensures value { result ≡ count_number answer }
+    ensures count_after { count.new ≡ given answer count.old }
+{
+    match answer {
+        Ok(k) => {
+            *count = k;
+            0
+        }
+        Err(refusal) => u32::from(refusal),
+    }
+}
+
 // 0, the states of the root's set in reading order and their count, or the refusal's number and nothing written.
 pub fn fitter_holding(table: &[u8], list: &[u8], out: &mut [u8], count: &mut u32) -> u32
     ensures value { result ≡ holding_number (holding_answer table.now list.now (length out.old)) }
     ensures out_after { out.new ≡ holding_buffer table.now list.now out.old }
     ensures count_after { count.new ≡ holding_count (holding_answer table.now list.now (length out.old)) count.old }
 {
-    match label::holding_states(table, list, out) {
-        Holding::Count(k) => {
-            *count = k;
-            0
-        }
-        Holding::Refused(refusal) => table::refusal_number(refusal),
-    }
+    store_count(label::holding_states(table, list, out), count)
 }
 
 // 0, the packed table of the sheet written and its length stored, or the refusal's number and nothing written.
@@ -112,11 +124,5 @@ pub fn fitter_read(text: &[u8], out: &mut [u8], length: &mut u64) -> u32
     ensures out_after { out.new ≡ read_buffer text.now out.old }
     ensures length_after { length.new ≡ read_length (read_answer text.now out.old) length.old }
 {
-    match reader::read(text, out) {
-        Read::Length(k) => {
-            *length = k as u64;
-            0
-        }
-        Read::Refused(refusal) => table::refusal_number(refusal),
-    }
+    store_count(reader::read(text, out).map(|k| k as u64), length)
 }

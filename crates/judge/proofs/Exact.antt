@@ -1,6 +1,6 @@
 -- The judge accepts a list exactly when it is a repair under path meaning, whatever the bytes.
 use Rattle.table.specs.Accept.{table_verdict}
-use Rattle.table.proofs.Accepted.{accepted}
+use Rattle.table.proofs.Facts.{accepted}
 use Rattle.table.proofs.Verdicts.{then_accepted}
 use Rattle.ctl.specs.Tests.{judge_verdict}
 use Rattle.ctl.proofs.Repair.{judge_accepts_repairs}

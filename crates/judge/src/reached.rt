@@ -2,8 +2,8 @@
 ghost use Rattle.judge.specs.Reached.{Least};
 
 // From the starts, by the rows of next states. Each state that is reached is looked at once: `left` has those whose row is not yet added.
-pub fn reached_states(rows: [u32; 32], starts: u32) -> u32
-    ensures { Least rows starts result }
+pub fn reached_states(rows: &[u32; 32], starts: u32) -> u32
+    ensures { Least rows.now starts result }
 {
     let mut reached = starts;
     let mut left = starts;

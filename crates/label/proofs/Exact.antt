@@ -7,18 +7,19 @@ use mathlib.Core.List.{List}
 use native.Mathlib.Decide.{dec_lt}
 use native.Mathlib.Omega.{arith}
 use borrow.Author.Tests.{leb-true}
+use lib.Dec.{leb}
 use lib.ListN.{length, get_or, take}
 use lib.Seq.{get_or-take, length-take-le}
 use Rattle.sets.specs.Member.{member, set_of}
 use Rattle.sets.proofs.Laws.{member_past}
 use Rattle.sets.proofs.SetOf.{member-set_of-below, set_of-lt}
 use Rattle.table.specs.declared.refusal.Refusal.{Refusal}
-use Rattle.table.specs.declared.refusal.Verdict.{Verdict}
-use Rattle.table.specs.declared.refusal.Verdict.TheVariants.{Accepted, Refused}
+use Rattle.table.specs.Verdict.{Verdict}
+use Rattle.std.specs.Prelude.{Ok, Err}
 use Rattle.table.specs.Buffer.{on_accepted, over, Written}
 use Rattle.table.specs.Table.{table_of}
 use Rattle.table.specs.Facts.{Wellformed}
-use Rattle.table.proofs.Accepted.{accepted}
+use Rattle.table.proofs.Facts.{accepted}
 use Rattle.table.proofs.Buffer.{over-written}
 use Rattle.table.proofs.Bools.{not_so}
 use Rattle.ctl.specs.Kept.{Kept, NodeHolds}
@@ -27,20 +28,19 @@ use Rattle.ctl.proofs.Meaning.{labels_are_meaning, marked_kept}
 use Rattle.ctl.proofs.Repair.{is-total}
 use Rattle.ctl.proofs.Tabulate.{length_tabulate, get_d_tabulate}
 use Rattle.ctl.proofs.Targets.{next_inside}
-use Rattle.label.specs.declared.analysis.Room.TheVariants.{Nodes}
 use Rattle.label.specs.Analysis.{label_words}
 use Rattle.label.specs.Calls.{label_verdict, label_buffer}
 use Rattle.label.specs.Exact.{LabelIsExact}
 use Rattle.label.proofs.Order.{table_accepted, room_accepted, total_accepted}
 
 -- a refusal leaves the buffer as it was
-pub label_untouched : (table list buffer : List ℕ) (r : Refusal) → label_verdict table list (length buffer) ≡ Refused r → label_buffer table list buffer ≡ buffer
+pub label_untouched : (table list buffer : List ℕ) (r : Refusal) → label_verdict table list (length buffer) ≡ Err r → label_buffer table list buffer ≡ buffer
 label_untouched table list buffer r e =
     ap (λ (v : Verdict). on_accepted v (over (length (table_of table).nodes) (label_words (table_of table) list) buffer) buffer) e
 
-module _ (table list buffer : List ℕ) (ok : label_verdict table list (length buffer) ≡ Accepted) where
+module _ (table list buffer : List ℕ) (ok : label_verdict table list (length buffer) ≡ Ok tt) where
   abbrev wf : Wellformed (table_of table)
-  wf = (accepted table (table_accepted (Nodes (length buffer)) table list ok)).table
+  wf = (accepted table (table_accepted (leb (length (table_of table).nodes) (length buffer)) table list ok)).table
 
   words_length : length (label_words (table_of table) list) ≡ 32
   words_length = length_tabulate 32 (λ i. set_of 32 (marked (table_of table) list i))
@@ -54,7 +54,7 @@ module _ (table list buffer : List ℕ) (ok : label_verdict table list (length b
       let f = length (table_of table).nodes in
       let words = label_words (table_of table) list in
       subst (λ (after : List ℕ). Written (take f words) buffer after) (ap (λ (v : Verdict). on_accepted v (over f words buffer) buffer) (sym ok))
-      (over-written f words buffer (omega (arith, words_length, wf.few_nodes)) (leb-true f (length buffer) (room_accepted (Nodes (length buffer)) table list ok)))
+      (over-written f words buffer (omega (arith, words_length, wf.few_nodes)) (leb-true f (length buffer) (room_accepted (leb (length (table_of table).nodes) (length buffer)) table list ok)))
 
   -- entry i is the word of node i
   word_at : (i : ℕ) → i < length (table_of table).nodes → get_or (label_buffer table list buffer) i 0 ≡ set_of 32 (marked (table_of table) list i)
@@ -82,7 +82,7 @@ module _ (table list buffer : List ℕ) (ok : label_verdict table list (length b
   pub label_exact : LabelIsExact table list buffer
   label_exact = record {
     bits = λ i h s.
-        let total = (is-total (table_of table) list).0 (total_accepted (Nodes (length buffer)) table list ok) in
+        let total = (is-total (table_of table) list).0 (total_accepted (leb (length (table_of table).nodes) (length buffer)) table list ok) in
         subst (λ (b : Bool). (b ≡ true) ↔ (Kept (table_of table) list s × NodeHolds (table_of table) list i s)) (sym (bit_at i h s))
         (labels_are_meaning (table_of table) wf list total i h s);
     high = λ i h s past. bit_at i h s ∙ unmarked i h s past;

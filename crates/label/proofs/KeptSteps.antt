@@ -11,7 +11,9 @@ use Rattle.sets.specs.Member.{member, set_of}
 use Rattle.table.specs.declared.record.Step.{Step}
 use Rattle.table.specs.Table.{table_of, step_at}
 use Rattle.table.specs.Rows.{Rows}
-use Rattle.table.proofs.Accepted.{ReadStep}
+use Rattle.std.specs.Prelude.{Ok}
+use Rattle.table.specs.Accept.{table_verdict}
+use Rattle.table.proofs.Facts.{ReadStep, accepted}
 use Rattle.table.proofs.Rows.{rows_more}
 use Rattle.ctl.specs.Labels.{kept_steps}
 
@@ -37,6 +39,15 @@ kept_more (x ∷ xs) (b ∷ bits) (suc j) d e h = step (eqb b 1) (kept_more xs b
         ≡ cond t (x ∷ kept_steps (take j xs) (take j bits)) (kept_steps (take j xs) (take j bits)) ++ if_kept (get_or bits j 0) (get_or xs j d)
     step true p = ap (λ (l : List Step). x ∷ l) p
     step false p = p
+
+-- a step of an accepted table: its ends are below 32
+pub step_ends : (table : List ℕ) → table_verdict table ≡ Ok tt → (j : ℕ) → j < length (table_of table).steps → (x : Step) → x ≡ step_at (table_of table) j → ReadStep table j x
+step_ends table ok j h x e =
+    let T = (accepted table ok).table in record {
+      here = e;
+      from_below = omega (arith, ap (λ (y : Step). y.from) e, T.from_state j h, T.few_states);
+      to_below = omega (arith, ap (λ (y : Step). y.to) e, T.to_state j h, T.few_states);
+    }
 
 -- the rows after a step that is kept, and after one that is struck
 module _ (rows next : List ℕ) (before : List Step) (g : Rows rows before) where

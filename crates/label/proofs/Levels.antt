@@ -10,8 +10,8 @@ use lib.Bits.{bit_and, bit_or}
 use lib.ListN.{length, get_or-eq_default}
 use Rattle.sets.specs.Member.{set_of}
 use Rattle.sets.proofs.SetOf.{set_of_cong}
-use Rattle.table.specs.declared.family.Family.{Family}
-use Rattle.table.specs.declared.family.Family.TheVariants.{Release, Until, Eventually, Always}
+use Rattle.table.specs.declared.operator.Family.{Family}
+use Rattle.table.specs.declared.operator.Family.TheVariants.{Release, Until, Eventually, Always}
 use Rattle.table.specs.Table.{Table}
 use Rattle.ctl.specs.Rule.{Quantifier}
 use Rattle.ctl.specs.Levels.{has, tabulate, iterate, next_in, joined, level}

@@ -1,5 +1,5 @@
 pub mod Order
-pub mod Analysed
+pub mod Ways
 pub mod KeptSteps
 pub mod Marks
 pub mod Next
@@ -12,3 +12,4 @@ pub mod Lowest
 pub mod ReadingOrder
 pub mod Held
 pub mod Exact
+pub mod FixpointKind

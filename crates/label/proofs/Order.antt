@@ -1,77 +1,74 @@
--- The tests of an analysis in their order: which verdict comes of which test.
+-- The tests in their order: which verdict comes of which test.
 use Prim.Native.Nat.{ℕ}
-use mathlib.Core.Path.{◌≡◌, sym, ap, ◌∙◌}
+use mathlib.Core.Path.{◌≡◌, refl, sym, ap, ◌∙◌}
 use mathlib.Core.Bool.{Bool, true, false}
 use mathlib.Core.List.{List}
+use borrow.Author.Tests.{eqb-true}
 use lib.ListN.{length}
+use Rattle.std.specs.Prelude.{Ok, Err}
 use Rattle.table.specs.declared.refusal.Refusal.{Refusal}
-use Rattle.table.specs.declared.refusal.Refusal.TheVariants.{ShortBuffer, NotTotal}
-use Rattle.table.specs.declared.refusal.Verdict.{Verdict}
-use Rattle.table.specs.declared.refusal.Verdict.TheVariants.{Accepted, Refused}
-use Rattle.table.specs.Verdict.{require, ◌then◌}
-use Rattle.table.specs.Table.{Table, table_of}
+use Rattle.table.specs.declared.refusal.Refusal.TheVariants.{ListForm, ShortBuffer, NotTotal}
+use Rattle.table.specs.Verdict.{Verdict, require, ◌then◌}
+use Rattle.table.specs.Table.{table_of}
 use Rattle.table.specs.Accept.{table_verdict, list_verdict}
+use Rattle.table.proofs.Bools.{and_parts}
 use Rattle.table.proofs.Verdicts.{then_refused, then_next, then_accepted, require_accepted}
 use Rattle.ctl.specs.Tests.{is_total}
-use Rattle.label.specs.declared.analysis.Room.{Room}
-use Rattle.label.specs.declared.analysis.Analysis.{Analysis}
-use Rattle.label.specs.Analysis.{room_fits, analysis_verdict, analysis_at, nothing}
+use Rattle.label.specs.Analysis.{form_verdict, analysis_verdict}
 
--- a refusal comes with nothing
-pub refused_analysis : (v : Verdict) (r : Refusal) (T : Table) (list : List ℕ) (o : Analysis) → v ≡ Refused r → o ≡ nothing (Refused r) → o ≡ analysis_at v T list
-refused_analysis v r T list o e n = n ∙ sym (ap (λ (w : Verdict). analysis_at w T list) e)
+pub then_assoc : (u v w : Verdict) → (u then v) then w ≡ u then (v then w)
+then_assoc (Ok tt) v w = refl
+then_assoc (Err r) v w = refl
 
-module _ (room : Room) (table list : List ℕ) where
-  -- what is left to test once the table is accepted
-  abbrev after_table : Verdict
-  after_table =
-      list_verdict (length (table_of table).steps) list
-      then require ShortBuffer (room_fits room (table_of table))
-      then require NotTotal (is_total (table_of table) list)
+-- what a form that is accepted says of the table and the list
+module _ (table list : List ℕ) (ok : form_verdict table list ≡ Ok tt) where
+  both : (table_verdict table ≡ Ok tt) × (list_verdict (length (table_of table).steps) list ≡ Ok tt)
+  unfolding form_verdict
+  both = then_accepted (table_verdict table) (list_verdict (length (table_of table).steps) list) ok
 
-  pub table_refused : (r : Refusal) → table_verdict table ≡ Refused r → analysis_verdict room table list ≡ Refused r
-  unfolding analysis_verdict
-  table_refused r e = then_refused (table_verdict table) after_table r e ∙ e
+  pub form_table : table_verdict table ≡ Ok tt
+  form_table = both.0
 
-  module _ (ok : table_verdict table ≡ Accepted) where
-    go_on : analysis_verdict room table list ≡ after_table
-    unfolding analysis_verdict
-    go_on = then_next (table_verdict table) after_table ok
+  -- a list of the form is as long as the steps
+  pub form_length : length list ≡ length (table_of table).steps
+  unfolding list_verdict
+  form_length = eqb-true (length list) (length (table_of table).steps) (and_parts _ _ (require_accepted ListForm _ both.1)).0
 
-    pub list_refused : (r : Refusal) → list_verdict (length (table_of table).steps) list ≡ Refused r → analysis_verdict room table list ≡ Refused r
-    list_refused r e = go_on ∙ then_refused (list_verdict (length (table_of table).steps) list) _ r e ∙ e
+module _ (room : Bool) (table list : List ℕ) where
+  -- what is left to test once the form is accepted
+  abbrev after_form : Verdict
+  after_form = require ShortBuffer room then require NotTotal (is_total (table_of table) list)
 
-    module _ (fine : list_verdict (length (table_of table).steps) list ≡ Accepted) where
-      pub room_refused : room_fits room (table_of table) ≡ false → analysis_verdict room table list ≡ Refused ShortBuffer
-      room_refused e =
-          go_on
-          ∙ then_next (list_verdict (length (table_of table).steps) list) _ fine
-          ∙ ap (λ (b : Bool). require ShortBuffer b then require NotTotal (is_total (table_of table) list)) e
+  form_first : analysis_verdict room table list ≡ form_verdict table list then after_form
+  unfolding analysis_verdict form_verdict
+  form_first = sym (then_assoc (table_verdict table) (list_verdict (length (table_of table).steps) list) after_form)
 
-      pub room_passed : room_fits room (table_of table) ≡ true → analysis_verdict room table list ≡ require NotTotal (is_total (table_of table) list)
-      room_passed e =
-          go_on
-          ∙ then_next (list_verdict (length (table_of table).steps) list) _ fine
-          ∙ ap (λ (b : Bool). require ShortBuffer b then require NotTotal (is_total (table_of table) list)) e
+  pub form_refused : (r : Refusal) → form_verdict table list ≡ Err r → analysis_verdict room table list ≡ Err r
+  form_refused r e = form_first ∙ then_refused (form_verdict table list) after_form r e ∙ e
 
--- what an accepting analysis says of its tests
-module _ (room : Room) (table list : List ℕ) (ok : analysis_verdict room table list ≡ Accepted) where
-  parts : (table_verdict table ≡ Accepted) × (after_table room table list ≡ Accepted)
-  unfolding analysis_verdict
-  parts = then_accepted (table_verdict table) (after_table room table list) ok
+  module _ (ok : form_verdict table list ≡ Ok tt) where
+    go_on : analysis_verdict room table list ≡ after_form
+    go_on = form_first ∙ then_next (form_verdict table list) after_form ok
 
-  pub table_accepted : table_verdict table ≡ Accepted
-  table_accepted = parts.0
+    pub room_refused : room ≡ false → analysis_verdict room table list ≡ Err ShortBuffer
+    room_refused e = go_on ∙ ap (λ (b : Bool). require ShortBuffer b then require NotTotal (is_total (table_of table) list)) e
 
-  list_and_rest : (list_verdict (length (table_of table).steps) list ≡ Accepted)
-      × (require ShortBuffer (room_fits room (table_of table)) then require NotTotal (is_total (table_of table) list) ≡ Accepted)
-  list_and_rest = then_accepted (list_verdict (length (table_of table).steps) list) _ parts.1
+    pub room_passed : room ≡ true → analysis_verdict room table list ≡ require NotTotal (is_total (table_of table) list)
+    room_passed e = go_on ∙ ap (λ (b : Bool). require ShortBuffer b then require NotTotal (is_total (table_of table) list)) e
 
-  room_and-total : (require ShortBuffer (room_fits room (table_of table)) ≡ Accepted) × (require NotTotal (is_total (table_of table) list) ≡ Accepted)
-  room_and-total = then_accepted (require ShortBuffer (room_fits room (table_of table))) (require NotTotal (is_total (table_of table) list)) list_and_rest.1
+-- what accepting tests say
+module _ (room : Bool) (table list : List ℕ) (ok : analysis_verdict room table list ≡ Ok tt) where
+  parts : (form_verdict table list ≡ Ok tt) × (after_form room table list ≡ Ok tt)
+  parts = then_accepted (form_verdict table list) (after_form room table list) (sym (form_first room table list) ∙ ok)
 
-  pub room_accepted : room_fits room (table_of table) ≡ true
-  room_accepted = require_accepted ShortBuffer (room_fits room (table_of table)) room_and-total.0
+  pub table_accepted : table_verdict table ≡ Ok tt
+  table_accepted = form_table table list parts.0
+
+  room_and-total : (require ShortBuffer room ≡ Ok tt) × (require NotTotal (is_total (table_of table) list) ≡ Ok tt)
+  room_and-total = then_accepted (require ShortBuffer room) (require NotTotal (is_total (table_of table) list)) parts.1
+
+  pub room_accepted : room ≡ true
+  room_accepted = require_accepted ShortBuffer room room_and-total.0
 
   pub total_accepted : is_total (table_of table) list ≡ true
   total_accepted = require_accepted NotTotal (is_total (table_of table) list) room_and-total.1

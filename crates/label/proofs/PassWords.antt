@@ -22,12 +22,27 @@ use Rattle.ctl.proofs.Tabulate.{length_tabulate, get_d_tabulate, get_d_tabulate_
 use Rattle.ctl.proofs.BottomUp.{OfChildren, of-children, bottom_up-length}
 use Rattle.ctl.proofs.Targets.{is_kept_lem, next_of_kept}
 use Rattle.ctl.proofs.Meaning.{KeptSet, label_of_lem, label_set}
-use Rattle.label.specs.Words.{full, node_word, next_word, pass_words}
+use Rattle.label.specs.Words.{full, ChildrenBelow, node_word, next_word, pass_words}
 use Rattle.label.specs.Analysis.{label_words}
 use Rattle.label.proofs.Marks.{and_word, or_word, not_word, wider}
 use Rattle.label.proofs.Next.{KeptRows, row_next_marks}
 use Rattle.label.proofs.Levels.{levels_word_lem}
 use Rattle.label.proofs.Kept.{StateBytes, kept_inside, labelled_word_lem}
+
+-- ---- the children of a node
+
+-- numbers that are below 32 each
+below_32 : (o : Operator) → OfChildren (λ k. k < 32) o → ChildrenBelow 32 o
+below_32 (constant b) h = tt
+below_32 (atom p) h = tt
+below_32 (negation a) h = h
+below_32 (conjunction a b) h = h
+below_32 (disjunction a b) h = h
+below_32 (next q a) h = h
+below_32 (fixpoint f q a b) h = h
+
+pub node_children : (T : Table) → Wellformed T → (i : ℕ) → i < length T.nodes → ChildrenBelow 32 (operator_of (node_at T i))
+node_children T wf i h = below_32 (operator_of (node_at T i)) (of-children T wf i h (λ k l. omega (arith, wf.few_nodes)))
 
 -- ---- sets of kept states
 

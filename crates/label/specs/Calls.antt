@@ -1,22 +1,18 @@
 -- 01, calls 3 and 4: what Label and Holding answer, and what every lent entry holds afterwards.
-use Rattle.std.specs.Prelude.{ℕ, List, ◌++◌, length, drop}
-use Rattle.table.specs.declared.refusal.Verdict.{Verdict}
-use Rattle.table.specs.declared.refusal.Verdict.TheVariants.{Accepted, Refused}
-use Rattle.table.specs.Verdict.{refusal_number}
+use Rattle.std.specs.Prelude.{ℕ, List, ◌++◌, leb, length, drop, Result, Ok, Err}
+use Rattle.table.specs.declared.refusal.Refusal.{Refusal}
+use Rattle.table.specs.Verdict.{Verdict, refusal_number}
 use Rattle.table.specs.Buffer.{on_accepted, over}
 use Rattle.table.specs.Table.{Table, table_of}
 use Rattle.table.specs.Accept.{initial_at}
 use Rattle.ctl.specs.Rule.{root_index}
 use Rattle.ctl.specs.Labels.{marked}
-use Rattle.label.specs.declared.analysis.Room.TheVariants.{Nodes, States}
-use Rattle.label.specs.declared.holding.Holding.{Holding}
-use Rattle.label.specs.declared.holding.Holding.TheVariants.{Count, Refused as HoldingRefused}
 use Rattle.label.specs.Analysis.{analysis_verdict, label_words}
 use Rattle.label.specs.ReadingOrder.{reading_order, states_with}
 
 -- Label: f entries, bit s of entry i set exactly when s is marked for node i
 abbrev pub label_verdict : List ℕ → List ℕ → ℕ → Verdict
-label_verdict table list room = analysis_verdict (Nodes room) table list
+label_verdict table list room = analysis_verdict (leb (length (table_of table).nodes) room) table list
 
 abbrev pub label_buffer : List ℕ → List ℕ → List ℕ → List ℕ
 label_buffer table list buffer =
@@ -27,13 +23,14 @@ abbrev pub held_states : Table → List ℕ → List ℕ
 held_states T list = states_with (reading_order (initial_at T)) (marked T list (root_index T))
 
 abbrev pub holding_verdict : List ℕ → List ℕ → ℕ → Verdict
-holding_verdict table list room = analysis_verdict (States room) table list
+holding_verdict table list room = analysis_verdict (leb (length (table_of table).states) room) table list
 
-abbrev pub holding_at : Verdict → ℕ → Holding
-holding_at Accepted count = Count count
-holding_at (Refused r) count = HoldingRefused r
+-- the number of states, or the refusal
+abbrev pub holding_at : Verdict → ℕ → Result ℕ Refusal
+holding_at (Ok tt) count = Ok count
+holding_at (Err r) count = Err r
 
-abbrev pub holding_answer : List ℕ → List ℕ → ℕ → Holding
+abbrev pub holding_answer : List ℕ → List ℕ → ℕ → Result ℕ Refusal
 holding_answer table list room = holding_at (holding_verdict table list room) (length (held_states (table_of table) list))
 
 abbrev pub holding_buffer : List ℕ → List ℕ → List ℕ → List ℕ
@@ -41,6 +38,6 @@ holding_buffer table list buffer =
     on_accepted (holding_verdict table list (length buffer)) (held_states (table_of table) list ++ drop (length (held_states (table_of table) list)) buffer) buffer
 
 -- the number of an answer: 0 where the states are given, else the refusal's
-abbrev pub holding_number : Holding → ℕ
-holding_number (Count k) = 0
-holding_number (HoldingRefused r) = refusal_number r
+abbrev pub holding_number : Result ℕ Refusal → ℕ
+holding_number (Ok k) = 0
+holding_number (Err r) = refusal_number r

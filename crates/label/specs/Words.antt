@@ -1,25 +1,18 @@
 -- Labels on machine words: a set of states is a number, its bits the states. `rows` has the set of kept next states of each state.
-use Rattle.std.specs.Prelude.{ℕ, zero, suc, ◌-◌, Bool, true, false, not, ◌&&◌, List, [], ◌∷◌, eqb, get_or, set}
+use Rattle.std.specs.Prelude.{ℕ, zero, suc, ◌-◌, ◌<◌, Bool, true, false, not, ◌&&◌, List, [], ◌∷◌, eqb, get_or, set}
 use Rattle.std.specs.Int.Bits.{bit_and, bit_or}
 use Rattle.sets.specs.Member.{member, set_of}
-use Rattle.table.specs.declared.family.Family.{Family}
-use Rattle.table.specs.declared.family.Family.TheVariants.{Release, Until, Eventually, Always}
+use Rattle.table.specs.declared.operator.Family.{Family}
+use Rattle.table.specs.declared.operator.Family.TheVariants.{Release, Until, Eventually, Always}
 use Rattle.table.specs.declared.record.Node.{Node}
 use Rattle.table.specs.StateSets.{labelled_word}
 use Rattle.table.specs.Accept.{all}
 use Rattle.ctl.specs.Rule.{Quantifier, every, some, Operator, constant, atom, negation, conjunction, disjunction, next, fixpoint, operator_of}
 use Rattle.ctl.specs.Levels.{below}
-use Rattle.label.specs.declared.fixpoint.Quantifier as Declared
-use Rattle.label.specs.declared.fixpoint.Quantifier.TheVariants.{Every, Some}
 
 -- all 32 bits
 abbrev pub full : ℕ
 full = 4294967295
-
--- the code's path quantifier
-abbrev pub quantifier_of : Declared.Quantifier → Quantifier
-quantifier_of Every = every
-quantifier_of Some = some
 
 -- AX or EX of X at a state with this row
 abbrev pub row_next : Quantifier → ℕ → ℕ → Bool
@@ -52,6 +45,16 @@ kept_word rows n = set_of n (λ s. not (eqb (get_or rows s 0) 0))
 -- every next state of every state is kept
 abbrev pub total_rows : List ℕ → ℕ → Bool
 total_rows rows kept = all (λ s. eqb (set_of 32 (λ t. member (get_or rows s 0) t && not (member kept t))) 0) (below 32)
+
+-- each child has a number below m
+abbrev pub ChildrenBelow : ℕ → Operator → Type 0
+ChildrenBelow m (constant b) = Unit
+ChildrenBelow m (atom p) = Unit
+ChildrenBelow m (negation a) = a < m
+ChildrenBelow m (conjunction a b) = (a < m) × (b < m)
+ChildrenBelow m (disjunction a b) = (a < m) × (b < m)
+ChildrenBelow m (next q a) = a < m
+ChildrenBelow m (fixpoint f q a b) = (a < m) × (b < m)
 
 module _ (rows : List ℕ) (kept n : ℕ) (states : List ℕ) where
   -- the set of a node, from the sets of the nodes before it

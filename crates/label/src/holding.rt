@@ -5,15 +5,9 @@ ghost use Rattle.ctl.specs.Levels.{below};
 ghost use Rattle.label.specs.ReadingOrder.{reading_order, states_with};
 ghost use Rattle.label.specs.Calls.{holding_answer, holding_buffer};
 
-use crate::analysis::{Room, analyse};
-use table::{Refusal, Verdict};
-
-// The number of states, or why the call refused.
-#[derive(Clone, Copy)]
-pub enum Holding {
-    Count(u32),
-    Refused(Refusal),
-}
+use crate::analysis::analyse;
+use crate::room::Room;
+use table::Refusal;
 
 // The states of a set, ascending, at the start of the buffer: the lowest member first, and then those of the rest.
 fn write_ascending(set: u32, out: &mut [u8])
@@ -21,12 +15,10 @@ fn write_ascending(set: u32, out: &mut [u8])
     ensures { out.new ≡ states_with (below 32) (member set) ++ drop (length (states_with (below 32) (member set))) out.old }
 {
     let mut left = set;
-    let mut i = 0;
-    while left != 0 {
+    for i in 0..sets::count(set) as usize {
         let s = sets::lowest(left);
         out[i] = s as u8;
         left = sets::remove(left, s);
-        i += 1;
     }
 }
 
@@ -43,16 +35,11 @@ fn write_states(set: u32, initial: u32, out: &mut [u8])
 }
 
 // The states of the root's set in reading order, a byte each; the answer is how many there are.
-pub fn holding_states(table: &[u8], list: &[u8], out: &mut [u8]) -> Holding
+pub fn holding_states(table: &[u8], list: &[u8], out: &mut [u8]) -> Result<u32, Refusal>
     ensures value { result ≡ holding_answer table.now list.now (length out.old) }
     ensures out_after { out.new ≡ holding_buffer table.now list.now out.old }
 {
-    let a = analyse(table, list, Room::States(out.len()));
-    let verdict = a.verdict;
-    if let Verdict::Refused(refusal) = verdict {
-        return Holding::Refused(refusal);
-    }
-    let root = a.root;
-    write_states(root, a.initial, out);
-    Holding::Count(sets::count(root))
+    let a = analyse(table, list, Room::States(out.len()))?;
+    write_states(a.root, a.initial, out);
+    Ok(sets::count(a.root))
 }

@@ -6,8 +6,10 @@ mod fixpoint;
 mod holding;
 mod label;
 mod pass;
+mod room;
 mod rows;
 
-pub use analysis::{Analysis, Room, analyse};
-pub use holding::{Holding, holding_states};
+pub use analysis::{Analysis, analyse};
+pub use holding::holding_states;
 pub use label::label_nodes;
+pub use room::Room;

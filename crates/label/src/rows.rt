@@ -1,57 +1,76 @@
-// The kept next states of each state, as a set.
+// What a list keeps of a table: the kept next states of each state, as a set, and the kept states.
 ghost use Rattle.std.specs.Prelude.{◌≡◌, ◌≤◌, length};
-ghost use Rattle.table.specs.declared.refusal.Verdict.TheVariants.{Accepted};
 ghost use Rattle.table.specs.Table.{table_of};
-ghost use Rattle.table.specs.Accept.{table_verdict};
-ghost use Rattle.table.specs.Rows.{Rows};
+ghost use Rattle.table.specs.Rows.{target_sets};
 ghost use Rattle.ctl.specs.Labels.{kept_steps};
 ghost use Rattle.label.specs.Words.{kept_word, total_rows};
 
-// One pass over the steps: a kept step sets its bit.
-pub fn kept_rows(table: &[u8], list: &[u8]) -> [u32; 32]
-    requires table_value { table_verdict table.now ≡ Accepted }
-    requires list_len { length list.now ≡ length (table_of table.now).steps }
-    ensures { Rows result (kept_steps (table_of table.now).steps list.now) }
-{
-    let steps = table::steps_part(table);
-    let mut rows = [0u32; 32];
-    let mut j = 0;
-    while j < list.len() {
-        if list[j] == 1 {
-            let x = table::step_at(steps, j);
-            let from = x.from;
-            let row = rows[from];
-            rows[from] = sets::insert(row, x.to);
+use table::Accepted;
+
+// `rows` has a set for each state, and `kept` the states whose set is not empty.
+#[derive(Clone, Copy)]
+pub struct KeptRows {
+    pub rows: [u32; 32],
+    pub states: usize,
+    pub kept: u32,
+    pub ghost few: { states ≤ 32 },
+    pub ghost kept_are: { kept ≡ kept_word rows states },
+}
+
+impl KeptRows {
+    pub fn new(table: &Accepted<'_>, list: &[u8]) -> KeptRows
+        requires { length list.now ≡ length (table_of table.now.bytes.now).steps }
+        ensures rows_are { result.rows ≡ target_sets (kept_steps (table_of table.now.bytes.now).steps list.now) }
+        ensures states_are { result.states ≡ length (table_of table.now.bytes.now).states }
+    {
+        let rows = kept_rows(table, list);
+        let states = table.state_count();
+        KeptRows {
+            rows,
+            states,
+            kept: kept_states(&rows, states),
         }
-        j += 1;
+    }
+
+    // Each kept step ends in a kept state.
+    pub fn is_total(&self) -> bool
+        ensures { result ≡ total_rows self.now.rows self.now.kept }
+    {
+        for row in &self.rows {
+            if sets::minus(*row, self.kept) != 0 {
+                return false;
+            }
+        }
+        true
+    }
+}
+
+// One pass over the steps: a kept step sets its bit.
+// `table::target_sets` lets every step through. One pass for both, with the filter as a closure, is no plainer: the closure reads the list at each
+// step, so that the list is long enough for it would stand in the contract of the pass.
+fn kept_rows(table: &Accepted<'_>, list: &[u8]) -> [u32; 32]
+    requires { length list.now ≡ length (table_of table.now.bytes.now).steps }
+    ensures { result ≡ target_sets (kept_steps (table_of table.now.bytes.now).steps list.now) }
+{
+    let mut rows = [0u32; 32];
+    for (j, bit) in list.iter().enumerate() {
+        if *bit == 1 {
+            let x = table.step(j);
+            rows[x.from] = sets::insert(rows[x.from], x.to);
+        }
     }
     rows
 }
 
 // The kept states: those with a next state.
-pub fn kept_states(rows: [u32; 32], n: usize) -> u32
+#[tactic(auto, using(sets::proofs::Collect::collect), unfolding(sets::specs::Member::set_of))]
+fn kept_states(rows: &[u32; 32], n: usize) -> u32
     requires { n ≤ 32 }
-    ensures { result ≡ kept_word rows n }
+    ensures { result ≡ kept_word rows.now n }
 {
     let mut kept = 0u32;
-    let mut s = 0;
-    while s < n {
+    for s in 0..n {
         kept = sets::insert_if(kept, s, rows[s] != 0);
-        s += 1;
     }
     kept
-}
-
-// Each kept step ends in a kept state.
-pub fn is_total(rows: [u32; 32], kept: u32) -> bool
-    ensures { result ≡ total_rows rows kept }
-{
-    let mut s = 0;
-    while s < 32 {
-        if sets::minus(rows[s], kept) != 0 {
-            return false;
-        }
-        s += 1;
-    }
-    true
 }

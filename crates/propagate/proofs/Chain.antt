@@ -4,13 +4,11 @@ use native.Mathlib.Nat.{add-zero, add-suc}
 use mathlib.Core.Path.{◌≡◌, sym, ap, ◌∙◌}
 use mathlib.Core.Bool.{true, false}
 use mathlib.Core.List.{List}
-use lib.ListN.{length}
 use Rattle.rows.specs.declared.row.Row.{Row}
 use Rattle.rows.specs.declared.row.Report.{Report}
-use Rattle.propagate.specs.declared.level.Fixpoint.{Fixpoint}
+use Rattle.rows.specs.Back.{quiet_report}
 use Rattle.rows.specs.Words.{joined, report_of, both_reports}
 use Rattle.propagate.specs.Memory.{Memory, Stepped, memory, stepped, add_row, ◌and_then◌, Visit, ◌then_visit◌, each_with}
-use Rattle.propagate.specs.Level.{Fits}
 use Rattle.propagate.proofs.Visits.{told}
 
 -- a row added to the rows
@@ -62,13 +60,6 @@ after_visit {S} f k s M {rows} {words} {rows'} {words'} {p} so before left here 
     on : each_with f (suc k) s M ≡ (each_with f k s M then_visit f k)
     on = each_on f k s M (sym (ap (λ (T : Stepped). T.report.fails) before) ∙ so)
 
--- what fits the memory fits one of the same size
-pub fits_on : {n : ℕ} {x : Fixpoint} (rows words rows' words' : List ℕ) → Fits n x rows words → length rows' ≡ length rows → length words' ≡ length words
-    → Fits n x rows' words'
-fits_on rows words rows' words' fits r w = record {
-  rows_size = r ∙ fits.rows_size;
-  node_below = fits.node_below;
-  a_below = fits.a_below;
-  b_below = fits.b_below;
-  levels_below = rw w fits.levels_below;
-}
+-- a report of nothing: the default one
+pub quiet_is : (r : Report) → (r.changed ≡ false) × ((r.fails ≡ false) × (r.steps ≡ 0)) → r ≡ quiet_report
+quiet_is r e = λ i. record { changed = e.0 i; fails = e.1.0 i; steps = e.1.1 i }

@@ -1,18 +1,16 @@
-// The gates of a node where their rows lie: one input, two inputs, next states, levels.
-ghost use Rattle.std.specs.Prelude.{◌≡◌, true, cond, List, eqb, ℕ, ◌+◌, ◌*◌, ◌-◌, ◌≤◌, ◌<◌, length};
-ghost use Rattle.propagate.specs.Memory.{memory, stepped};
-ghost use Rattle.propagate.specs.Level.{fixpoint_at, levels_from};
+// The gates of a node that has no levels, where their rows lie: one input, two inputs, next states. Those of OR and E are those of AND and A with each row
+// turned, so what tells them apart is a bool, as `turn` takes it.
+ghost use Rattle.std.specs.Prelude.{◌≡◌, true, cond, List, eqb, ℕ, ◌<◌};
+ghost use Rattle.propagate.specs.Memory.{memory, stepped, node_place, add_row, go_back_more};
 ghost use Rattle.propagate.specs.Gates.{same_step, both_step, next_step};
 
+use crate::graph::Graph;
 use crate::layout::{add_node, node_row};
-use crate::level::Fixpoint;
-use crate::levels::levels_step;
-use rows::{Report, ahead, and_input, and_output, both, go_back, is_none, mask, new_of, turn};
-use table::Family;
+use rows::{Report, Row, ahead, and_input, and_output, both, go_back, is_none, mask, new_of, turn};
 
 // One input: what is known passes both ways.
-pub fn same_step(rows: &mut [u32], i: usize, same: bool, a: usize) -> Report
-    requires { (i < 32) × ((a < 32) × (length rows.old ≡ 130)) }
+pub fn same_step(rows: &mut [u32; 130], i: usize, same: bool, a: usize) -> Report
+    requires { (i < 32) × (a < 32) }
     ensures { (w : List ℕ) → stepped rows.new w result ≡ same_step i same a (memory rows.old w) }
 {
     let x = node_row(rows, a);
@@ -22,8 +20,8 @@ pub fn same_step(rows: &mut [u32], i: usize, same: bool, a: usize) -> Report
 }
 
 // AND of two inputs; OR is its dual.
-fn both_step(rows: &mut [u32], i: usize, same: bool, a: usize, b: usize) -> Report
-    requires { (i < 32) × ((a < 32) × ((b < 32) × (length rows.old ≡ 130))) }
+fn both_step(rows: &mut [u32; 130], i: usize, same: bool, a: usize, b: usize) -> Report
+    requires { (i < 32) × ((a < 32) × (b < 32)) }
     ensures { (w : List ℕ) → stepped rows.new w result ≡ both_step i same a b (memory rows.old w) }
 {
     let x = turn(same, node_row(rows, a));
@@ -35,8 +33,8 @@ fn both_step(rows: &mut [u32], i: usize, same: bool, a: usize, b: usize) -> Repo
 }
 
 // AND or OR of a and b, which may be one node: then the literal that stands twice counts once.
-pub fn pair_step(rows: &mut [u32], i: usize, same: bool, a: usize, b: usize) -> Report
-    requires { (i < 32) × ((a < 32) × ((b < 32) × (length rows.old ≡ 130))) }
+pub fn pair_step(rows: &mut [u32; 130], i: usize, same: bool, a: usize, b: usize) -> Report
+    requires { (i < 32) × ((a < 32) × (b < 32)) }
     ensures { (w : List ℕ) → stepped rows.new w result ≡ cond (eqb a b) (same_step i true a (memory rows.old w)) (both_step i same a b (memory rows.old w)) }
 {
     if a == b {
@@ -45,58 +43,46 @@ pub fn pair_step(rows: &mut [u32], i: usize, same: bool, a: usize, b: usize) -> 
     both_step(rows, i, same, a, b)
 }
 
-// AX; EX is its dual. Of N only the states of a set are looked at.
-pub fn next_step(
-    targets: &[u32],
-    rows: &mut [u32],
-    n: usize,
-    look: u32,
-    i: usize,
+// Back from N to the steps and to a, with what is known of N beside what its ends say.
+fn next_back(
+    graph: &Graph,
+    rows: &mut [u32; 130],
     every: bool,
+    more: Row,
     a: usize,
+    below: Row,
 ) -> Report
-    requires i_bound { (i < 32) × ((a < 32) × (length rows.old ≡ 130)) }
-    requires n_bound { (n ≤ 32) × (length targets.now ≡ 32) }
-    ensures { (w : List ℕ) → stepped rows.new w result ≡ next_step targets.now n look i every a (memory rows.old w) }
+    requires { a < 32 }
+    ensures { (w : List ℕ) → stepped rows.new w result ≡ go_back_more graph.now.targets graph.now.states every more below (add_row (node_place a)) (memory rows.old w) }
 {
-    let end = turn(every, node_row(rows, a));
-    let up = turn(every, ahead(targets, rows, look, end));
-    let first = add_node(rows, i, up);
-    let more = new_of(mask(look, node_row(rows, i)), up);
     if is_none(more) {
-        return first;
+        return Report::default();
     }
-    let k = go_back(targets, rows, n, turn(every, more), end);
-    both(first, both(k.report, add_node(rows, a, turn(every, k.end))))
+    let k = go_back(
+        &graph.targets,
+        rows,
+        graph.states,
+        turn(every, more),
+        turn(every, below),
+    );
+    both(k.report, add_node(rows, a, turn(every, k.end)))
 }
 
-// The levels of a fixed-point node, at the states of a set.
-pub fn fixpoint_step(
-    targets: &[u32],
-    rows: &mut [u32],
-    words: &mut [u32],
-    n: usize,
+// AX; EX is its dual. Of N only the states of a set are looked at.
+pub fn next_step(
+    graph: &Graph,
+    rows: &mut [u32; 130],
     look: u32,
-    base: usize,
-    family: Family,
     i: usize,
     every: bool,
     a: usize,
-    b: usize,
-    down: bool,
 ) -> Report
-    requires i_bound { (i < 32) × ((a < 32) × ((b < 32) × (length rows.old ≡ 130))) }
-    requires n_bound { (n ≤ 32) × (length targets.now ≡ 32) }
-    requires n_in_bounds { base + 2 * (n - 1) ≤ length words.old }
-    ensures { stepped rows.new words.new result ≡ (levels_from targets.now n (fixpoint_at family i every a b base) down look n (memory rows.old words.old)).done }
+    requires { (i < 32) × (a < 32) }
+    ensures { (w : List ℕ) → stepped rows.new w result ≡ next_step graph.now.targets graph.now.states look i every a (memory rows.old w) }
 {
-    let x = Fixpoint {
-        family: family,
-        node: i,
-        a: a,
-        b: b,
-        every: every,
-        base: base,
-    };
-    levels_step(targets, rows, words, n, x, down, look)
+    let below = node_row(rows, a);
+    let up = turn(every, ahead(&graph.targets, rows, look, turn(every, below)));
+    let first = add_node(rows, i, up);
+    let more = new_of(mask(look, node_row(rows, i)), up);
+    both(first, next_back(graph, rows, every, more, a, below))
 }

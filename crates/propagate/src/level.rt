@@ -3,9 +3,13 @@ ghost use Rattle.std.specs.Prelude.{◌≡◌, ◌≤◌, ◌<◌, length};
 ghost use Rattle.propagate.specs.Memory.{memory, stepped, go_back_more};
 ghost use Rattle.propagate.specs.Level.{level_at, add_level, add_joined, joined_at, level_step, Fits};
 
+use crate::graph::Graph;
 use crate::layout::{add_node, node_row};
 use rows::{Joined, Report, Row, add, ahead, both, go_back, is_none, join, mask, row_at, turn};
 use table::Family;
+
+// That a fixed point fits the memory (`Fits`) is asked in the contracts and is no invariant: it speaks of the lent words too, which change hands at each
+// call, and the definitions speak of fixed points anywhere. `every` is a bool, as `turn` takes it.
 
 // A fixed-point node: its family, its number and children, whether it is of every path, and where its levels lie.
 #[derive(Clone, Copy)]
@@ -18,7 +22,7 @@ pub struct Fixpoint {
     pub base: usize,
 }
 
-pub fn level_row(rows: &[u32], words: &[u32], n: usize, x: Fixpoint, m: usize) -> Row
+pub fn level_row(rows: &[u32; 130], words: &[u32], n: usize, x: Fixpoint, m: usize) -> Row
     requires fits { Fits n x rows.now words.now }
     requires m_le_n { m ≤ n }
     ensures { result ≡ level_at n x m (memory rows.now words.now) }
@@ -32,7 +36,14 @@ pub fn level_row(rows: &[u32], words: &[u32], n: usize, x: Fixpoint, m: usize) -
     row_at(words, x.base + 2 * (m - 1))
 }
 
-fn add_level(rows: &mut [u32], words: &mut [u32], n: usize, x: Fixpoint, m: usize, r: Row) -> Report
+fn add_level(
+    rows: &mut [u32; 130],
+    words: &mut [u32],
+    n: usize,
+    x: Fixpoint,
+    m: usize,
+    r: Row,
+) -> Report
     requires fits { Fits n x rows.old words.old }
     requires m_le_n { m ≤ n }
     ensures { stepped rows.new words.new result ≡ add_level n x m r (memory rows.old words.old) }
@@ -48,22 +59,21 @@ fn add_level(rows: &mut [u32], words: &mut [u32], n: usize, x: Fixpoint, m: usiz
 
 // What is known around level m + 1 at the states of a set, joined: the level, a and b, and N over the level below.
 fn joined_at(
-    targets: &[u32],
-    rows: &[u32],
+    graph: &Graph,
+    rows: &[u32; 130],
     words: &[u32],
-    n: usize,
     x: Fixpoint,
     m: usize,
     look: u32,
     below: Row,
 ) -> Joined
-    requires fits { Fits n x rows.now words.now }
-    requires m_lt_n { (m < n) × ((n ≤ 32) × (length targets.now ≡ 32)) }
-    ensures { result ≡ joined_at targets.now n x m look below (memory rows.now words.now) }
+    requires fits { Fits graph.now.states x rows.now words.now }
+    requires m_lt_n { m < graph.now.states }
+    ensures { result ≡ joined_at graph.now.targets graph.now.states x m look below (memory rows.now words.now) }
 {
     let every = x.every;
-    let up = turn(every, ahead(targets, rows, look, turn(every, below)));
-    let level = mask(look, level_row(rows, words, n, x, m + 1));
+    let up = turn(every, ahead(&graph.targets, rows, look, turn(every, below)));
+    let level = mask(look, level_row(rows, words, graph.states, x, m + 1));
     let a = mask(look, node_row(rows, x.a));
     let b = mask(look, node_row(rows, x.b));
     let family = x.family;
@@ -72,7 +82,7 @@ fn joined_at(
 
 // Adds what the join gives to the level, a and b.
 fn add_joined(
-    rows: &mut [u32],
+    rows: &mut [u32; 130],
     words: &mut [u32],
     n: usize,
     x: Fixpoint,
@@ -84,9 +94,8 @@ fn add_joined(
     ensures { stepped rows.new words.new result ≡ add_joined rows.old n x m j (memory rows.old words.old) }
 {
     let start = Report {
-        changed: false,
         fails: j.fails,
-        steps: 0,
+        ..Report::default()
     };
     let first = both(start, add_level(rows, words, n, x, m + 1, j.level));
     let second = both(first, add_node(rows, x.a, j.a));
@@ -95,53 +104,50 @@ fn add_joined(
 
 // Back from N to the steps and the level below, with what is known of N beside what its ends say.
 fn level_back(
-    targets: &[u32],
-    rows: &mut [u32],
+    graph: &Graph,
+    rows: &mut [u32; 130],
     words: &mut [u32],
-    n: usize,
     x: Fixpoint,
     m: usize,
     more: Row,
     below: Row,
 ) -> Report
-    requires fits { Fits n x rows.old words.old }
-    requires m_lt_n { (m < n) × ((n ≤ 32) × (length targets.now ≡ 32)) }
-    ensures { stepped rows.new words.new result ≡ go_back_more targets.now n x.every more below (add_level n x m) (memory rows.old words.old) }
+    requires fits { Fits graph.now.states x rows.old words.old }
+    requires m_lt_n { m < graph.now.states }
+    ensures { stepped rows.new words.new result ≡ go_back_more graph.now.targets graph.now.states x.every more below (add_level graph.now.states x m) (memory rows.old words.old) }
 {
     if is_none(more) {
-        return Report {
-            changed: false,
-            fails: false,
-            steps: 0,
-        };
+        return Report::default();
     }
     let every = x.every;
-    let k = go_back(targets, rows, n, turn(every, more), turn(every, below));
+    let k = go_back(
+        &graph.targets,
+        rows,
+        graph.states,
+        turn(every, more),
+        turn(every, below),
+    );
     both(
         k.report,
-        add_level(rows, words, n, x, m, turn(every, k.end)),
+        add_level(rows, words, graph.states, x, m, turn(every, k.end)),
     )
 }
 
 // Level m + 1 over level m, at the states of a set.
 pub fn level_step(
-    targets: &[u32],
-    rows: &mut [u32],
+    graph: &Graph,
+    rows: &mut [u32; 130],
     words: &mut [u32],
-    n: usize,
     x: Fixpoint,
     m: usize,
     look: u32,
 ) -> Report
-    requires fits { Fits n x rows.old words.old }
-    requires m_lt_n { (m < n) × ((n ≤ 32) × (length targets.now ≡ 32)) }
-    ensures { stepped rows.new words.new result ≡ level_step targets.now n x m look (memory rows.old words.old) }
+    requires fits { Fits graph.now.states x rows.old words.old }
+    requires m_lt_n { m < graph.now.states }
+    ensures { stepped rows.new words.new result ≡ level_step graph.now.targets graph.now.states x m look (memory rows.old words.old) }
 {
-    let below = level_row(rows, words, n, x, m);
-    let j = joined_at(targets, rows, words, n, x, m, look, below);
-    let first = add_joined(rows, words, n, x, m, j);
-    both(
-        first,
-        level_back(targets, rows, words, n, x, m, j.more, below),
-    )
+    let below = level_row(rows, words, graph.states, x, m);
+    let j = joined_at(graph, rows, words, x, m, look, below);
+    let first = add_joined(rows, words, graph.states, x, m, j);
+    both(first, level_back(graph, rows, words, x, m, j.more, below))
 }

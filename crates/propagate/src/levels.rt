@@ -1,11 +1,12 @@
 // All levels of a fixed-point node, at the states of a set; once something was added, at all states. Levels soon become alike, so a level with the rows
 // of one that added nothing is passed over.
-ghost use Rattle.std.specs.Prelude.{◌≡◌, ◌≤◌, ◌<◌, length};
-ghost use Rattle.propagate.specs.Memory.{memory, stepped};
+ghost use Rattle.std.specs.Prelude.{◌≡◌, ◌<◌};
+ghost use Rattle.propagate.specs.Memory.{memory, stepped, ordered};
 ghost use Rattle.propagate.specs.Level.{alike, level_visit, levels_from, Fits};
 
+use crate::graph::Graph;
 use crate::level::{Fixpoint, level_row, level_step};
-use rows::{Report, Row, both, is_quiet, is_same};
+use rows::{Report, Row, both, is_quiet};
 
 // The states to look at, and the level looked at last: whether it added nothing, its row and that of the level below it.
 #[derive(Clone, Copy)]
@@ -26,94 +27,84 @@ pub struct LevelVisit {
 fn is_alike(seen: Seen, level: Row, below: Row) -> bool
     ensures { result ≡ alike seen level below }
 {
-    if !seen.quiet {
-        return false;
-    }
-    if !is_same(seen.level, level) {
-        return false;
-    }
-    is_same(seen.below, below)
+    seen.quiet && seen.level == level && seen.below == below
 }
 
 // Level m + 1 over level m.
 fn level_visit(
-    targets: &[u32],
-    rows: &mut [u32],
+    graph: &Graph,
+    rows: &mut [u32; 130],
     words: &mut [u32],
-    n: usize,
     x: Fixpoint,
     m: usize,
     seen: Seen,
 ) -> LevelVisit
-    requires fits { Fits n x rows.old words.old }
-    requires m_lt_n { (m < n) × ((n ≤ 32) × (length targets.now ≡ 32)) }
-    ensures report_after { stepped rows.new words.new result.report ≡ (level_visit targets.now n x m seen (memory rows.old words.old)).done }
-    ensures seen_value { result.seen ≡ (level_visit targets.now n x m seen (memory rows.old words.old)).left }
+    requires fits { Fits graph.now.states x rows.old words.old }
+    requires m_lt_n { m < graph.now.states }
+    ensures report_after { stepped rows.new words.new result.report ≡ (level_visit graph.now.targets graph.now.states x m seen (memory rows.old words.old)).done }
+    ensures seen_value { result.seen ≡ (level_visit graph.now.targets graph.now.states x m seen (memory rows.old words.old)).left }
 {
+    let n = graph.states;
     let level = level_row(rows, words, n, x, m + 1);
     let below = level_row(rows, words, n, x, m);
     if is_alike(seen, level, below) {
         return LevelVisit {
-            report: Report {
-                changed: false,
-                fails: false,
-                steps: 0,
-            },
-            seen: seen,
+            report: Report::default(),
+            seen,
         };
     }
-    let report = level_step(targets, rows, words, n, x, m, seen.look);
+    let report = level_step(graph, rows, words, x, m, seen.look);
     let look = if report.changed {
         sets::below(n)
     } else {
         seen.look
     };
     LevelVisit {
-        report: report,
+        report,
         seen: Seen {
-            look: look,
+            look,
             quiet: is_quiet(report),
-            level: level,
-            below: below,
+            level,
+            below,
         },
     }
 }
 
+// The k-th of n numbers, going up or going down. A range and its reverse are two types of iterator, and one loop takes either way by this.
+pub fn in_order(down: bool, n: usize, k: usize) -> usize
+    requires { k < n }
+    ensures { result ≡ ordered down n k }
+{
+    if down { n - 1 - k } else { k }
+}
+
 // Upward or downward, until something is known both ways.
-pub fn levels_step(
-    targets: &[u32],
-    rows: &mut [u32],
+pub fn fixpoint_step(
+    graph: &Graph,
+    rows: &mut [u32; 130],
     words: &mut [u32],
-    n: usize,
     x: Fixpoint,
     down: bool,
     look: u32,
 ) -> Report
-    requires fits { Fits n x rows.old words.old }
-    requires n_bound { (n ≤ 32) × (length targets.now ≡ 32) }
-    ensures { stepped rows.new words.new result ≡ (levels_from targets.now n x down look n (memory rows.old words.old)).done }
+    requires { Fits graph.now.states x rows.old words.old }
+    ensures { stepped rows.new words.new result ≡ (levels_from graph.now.targets graph.now.states x down look graph.now.states (memory rows.old words.old)).done }
 {
-    let mut report = Report {
-        changed: false,
-        fails: false,
-        steps: 0,
-    };
+    let mut report = Report::default();
     let mut seen = Seen {
-        look: look,
+        look,
         quiet: false,
-        level: Row { yes: 0, no: 0 },
-        below: Row { yes: 0, no: 0 },
+        level: Row::default(),
+        below: Row::default(),
     };
-    let mut k = 0;
-    while k < n {
-        let m = if down { n - 1 - k } else { k };
-        let v = level_visit(targets, rows, words, n, x, m, seen);
+    for k in 0..graph.states {
+        let m = in_order(down, graph.states, k);
+        let v = level_visit(graph, rows, words, x, m, seen);
         report = both(report, v.report);
         if report.fails {
             return report;
         }
         seen = v.seen;
-        k += 1;
     }
     report
 }

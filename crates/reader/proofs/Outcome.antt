@@ -10,27 +10,25 @@ use lib.Dec.{leb}
 use lib.ListN.{length, drop}
 use Rattle.table.specs.declared.refusal.Refusal.{Refusal}
 use Rattle.table.specs.declared.refusal.Refusal.TheVariants.{SheetForm, Counts as CountsRefused, ShortBuffer}
-use Rattle.table.specs.declared.refusal.Verdict.{Verdict}
-use Rattle.table.specs.declared.refusal.Verdict.TheVariants.{Accepted, Refused}
+use Rattle.table.specs.Verdict.{Verdict}
+use Rattle.std.specs.Prelude.{Ok, Err}
 use Rattle.table.specs.Verdict.{require}
 use Rattle.table.specs.Table.{counts_of, packed_length}
 use Rattle.table.specs.Accept.{counts_fit, table_verdict}
-use Rattle.table.proofs.Accepted.{counts_within}
+use Rattle.table.proofs.Facts.{counts_within}
 use Rattle.table.proofs.Verdicts.{then_refused, then_next}
-use Rattle.reader.specs.declared.answer.Read.{Read}
-use Rattle.reader.specs.declared.answer.Read.TheVariants.{Length, Refused as ReadRefused}
 use Rattle.sheet.specs.Form.{Sheet, InRange}
 use Rattle.sheet.specs.Parse.{parse}
-use Rattle.reader.specs.Read.{pack, packed, sheet_verdict, read_verdict, answer, buffer, read_answer, read_buffer}
+use Rattle.reader.specs.Read.{pack, packed, Answer, sheet_verdict, read_verdict, answer, buffer, read_answer, read_buffer}
 use Rattle.reader.proofs.Packed.{pack-length, counts_pack}
 
 module _ (text out : List ℕ) where
   -- an answer, and the buffer that goes with it
-  abbrev pub Outcome : Read → List ℕ → Type 0
+  abbrev pub Outcome : Answer → List ℕ → Type 0
   Outcome r after = (r ≡ read_answer text out) × (after ≡ read_buffer text out)
 
   -- test 1
-  pub not_of_form : parse text ≡ none → Outcome (ReadRefused SheetForm) out
+  pub not_of_form : parse text ≡ none → Outcome (Err SheetForm) out
   unfolding read_verdict
   not_of_form e = (ap (λ (p : Option Sheet). answer (sheet_verdict p (length out)) (packed p)) (sym e), ap (λ (p : Option Sheet). buffer (sheet_verdict p (length out)) (packed p) out) (sym e))
 
@@ -43,28 +41,28 @@ module _ (text out : List ℕ) where
     )
 
     -- refused by the table's tests
-    pub table_refused : (r : Refusal) → table_verdict (pack v) ≡ Refused r → Outcome (ReadRefused r) out
-    table_refused r h = outcome (Refused r) (then_refused (table_verdict (pack v)) (require ShortBuffer (leb (length (pack v)) (length out))) r h ∙ h)
+    pub table_refused : (r : Refusal) → table_verdict (pack v) ≡ Err r → Outcome (Err r) out
+    table_refused r h = outcome (Err r) (then_refused (table_verdict (pack v)) (require ShortBuffer (leb (length (pack v)) (length out))) r h ∙ h)
 
     -- a table that does not fit the lent buffer
-    pub too_short : table_verdict (pack v) ≡ Accepted → length out < length (pack v) → Outcome (ReadRefused ShortBuffer) out
+    pub too_short : table_verdict (pack v) ≡ Ok tt → length out < length (pack v) → Outcome (Err ShortBuffer) out
     too_short h l =
-        outcome (Refused ShortBuffer)
+        outcome (Err ShortBuffer)
         (then_next (table_verdict (pack v)) (require ShortBuffer (leb (length (pack v)) (length out))) h ∙ ap (require ShortBuffer) (lt-leb (length (pack v)) (length out) l))
 
     -- an accepted table that fits
-    pub accepted_read : table_verdict (pack v) ≡ Accepted → length (pack v) ≤ length out → Outcome (Length (length (pack v))) (pack v ++ drop (length (pack v)) out)
+    pub accepted_read : table_verdict (pack v) ≡ Ok tt → length (pack v) ≤ length out → Outcome (Ok (length (pack v))) (pack v ++ drop (length (pack v)) out)
     accepted_read h l =
-        outcome Accepted
+        outcome (Ok tt)
         (then_next (table_verdict (pack v)) (require ShortBuffer (leb (length (pack v)) (length out))) h ∙ ap (require ShortBuffer) (le-leb (length (pack v)) (length out) l))
 
 -- a length is answered where every test passed
-pub length_back : (v : Verdict) (table : List ℕ) (k : ℕ) → answer v table ≡ Length k → (v ≡ Accepted) × (length table ≡ k)
-length_back Accepted table k e = (refl, cc)
-length_back (Refused q) table k e = absurd (let z : ◌≡◌ {A = ℕ} 0 1 = cc in omega arith)
+pub length_back : (v : Verdict) (table : List ℕ) (k : ℕ) → answer v table ≡ Ok k → (v ≡ Ok tt) × (length table ≡ k)
+length_back (Ok tt) table k e = (refl, cc)
+length_back (Err q) table k e = absurd (let z : ◌≡◌ {A = ℕ} 0 1 = cc in omega arith)
 
 -- a table of more than 580 bytes has a count out of its range
-pub too_long : (v : Sheet) → InRange v → 580 < packed_length v.counts → table_verdict (pack v) ≡ Refused CountsRefused
+pub too_long : (v : Sheet) → InRange v → 580 < packed_length v.counts → table_verdict (pack v) ≡ Err CountsRefused
 unfolding table_verdict
 too_long v h l =
     let n = pack-length v h in

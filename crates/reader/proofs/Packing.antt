@@ -6,7 +6,7 @@ use lib.ListN.{length}
 use lib.Seq.{sets}
 use Rattle.sheet.specs.Form.{bytes_of}
 use Rattle.sheet.specs.Parse.{Parser, got, broken}
-use Rattle.sheet.specs.Place.{values}
+use Rattle.sheet.specs.Reading.{values}
 use Rattle.sheet.proofs.Times.{values_next, values_broken}
 use Rattle.reader.proofs.Stores.{sets_append}
 

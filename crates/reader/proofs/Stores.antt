@@ -1,10 +1,12 @@
 -- Runs of stores: one run behind another is one run.
 use Prim.Native.Nat.{ℕ, suc, ◌+◌, ◌≤◌}
 use mathlib.Core.Path.{◌≡◌, refl, sym, ap, ◌∙◌}
-use mathlib.Core.List.{List, [], ◌∷◌, ◌++◌}
+use mathlib.Core.List.{List, [], ◌∷◌, ◌++◌, append_assoc}
 use native.Mathlib.Nat.{add-zero, add-suc, suc-add}
 use native.Mathlib.Omega.{arith}
+use borrow.Rule.Slice.PartMut.{put_mid}
 use lib.ListN.{length, take, drop, set}
+use Rattle.std.proofs.Common.{drop-drop}
 use lib.Seq.{sets, sets-eq, take_at}
 
 module _ {A : Type 0} where
@@ -20,3 +22,11 @@ module _ {A : Type 0} where
   sets_front xs l h =
       let whole : sets l 0 xs ≡ xs ++ drop (0 + length xs) l = sets-eq xs l 0 (omega arith) in
       ap (take (length xs)) whole ∙ take_at xs (drop (0 + length xs) l) (length xs) refl
+
+  -- what is copied into a part is stored there
+  pub part_stored : (xs l : List A) (i k : ℕ) → length xs ≡ k → i + k ≤ length l → put_mid i k l xs ≡ sets l i xs
+  part_stored xs l i k e h =
+      ap (λ (n : ℕ). put_mid i n l xs) (sym e)
+      ∙ ap (λ (t : List A). take i l ++ (xs ++ t)) (drop-drop (length xs) i l)
+      ∙ sym (append_assoc (take i l) xs (drop (i + length xs) l))
+      ∙ sym (sets-eq xs l i (omega arith))

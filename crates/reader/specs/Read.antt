@@ -1,18 +1,15 @@
 -- 01, "Calls", 5: a sheet into a packed table. Tests 1, 3 to 8 and 10, and what is answered and written.
-use Rattle.std.specs.Prelude.{ℕ, ◌/◌, ◌%◌, List, [], ◌∷◌, ◌++◌, leb, length, drop}
+use Rattle.std.specs.Prelude.{ℕ, ◌/◌, ◌%◌, List, [], ◌∷◌, ◌++◌, leb, length, drop, Result, Ok, Err}
 use Rattle.std.proofs.Math.Option.{Option, none, some}
 use Rattle.table.specs.declared.counts.Counts.{Counts}
 use Rattle.table.specs.declared.record.State.{State}
 use Rattle.table.specs.declared.record.Step.{Step}
 use Rattle.table.specs.declared.record.Node.{Node}
+use Rattle.table.specs.declared.refusal.Refusal.{Refusal}
 use Rattle.table.specs.declared.refusal.Refusal.TheVariants.{SheetForm, ShortBuffer}
-use Rattle.table.specs.declared.refusal.Verdict.{Verdict}
-use Rattle.table.specs.declared.refusal.Verdict.TheVariants.{Accepted, Refused}
-use Rattle.table.specs.Verdict.{require, ◌then◌, refusal_number}
+use Rattle.table.specs.Verdict.{Verdict, require, ◌then◌, refusal_number}
 use Rattle.table.specs.Buffer.{on_accepted}
 use Rattle.table.specs.Accept.{table_verdict}
-use Rattle.reader.specs.declared.answer.Read.{Read}
-use Rattle.reader.specs.declared.answer.Read.TheVariants.{Length, Refused as ReadRefused}
 use Rattle.sheet.specs.Form.{Sheet, bytes_of}
 use Rattle.sheet.specs.Parse.{parse}
 
@@ -39,7 +36,7 @@ pack v =
 
 -- test 1, then 3 to 8 on the packed table, then 10 on a lent buffer of `room` bytes
 abbrev pub sheet_verdict : Option Sheet → ℕ → Verdict
-sheet_verdict none room = Refused SheetForm
+sheet_verdict none room = Err SheetForm
 sheet_verdict (some v) room = table_verdict (pack v) then require ShortBuffer (leb (length (pack v)) room)
 
 unfoldable pub read_verdict : List ℕ → ℕ → Verdict
@@ -50,22 +47,26 @@ abbrev pub packed : Option Sheet → List ℕ
 packed none = []
 packed (some v) = pack v
 
+-- what a call that fills a lent buffer answers: how many bytes, or why it is refused
+abbrev pub Answer : Type 0
+Answer = Result ℕ Refusal
+
 -- accepted: the length is answered, and the table stands at the front of the buffer; refused: the buffer stays
-abbrev pub answer : Verdict → List ℕ → Read
-answer Accepted table = Length (length table)
-answer (Refused r) table = ReadRefused r
+abbrev pub answer : Verdict → List ℕ → Answer
+answer (Ok tt) table = Ok (length table)
+answer (Err r) table = Err r
 
 abbrev pub buffer : Verdict → List ℕ → List ℕ → List ℕ
 buffer v table out = on_accepted v (table ++ drop (length table) out) out
 
 -- the outcome of the call for every text and every lent buffer
-abbrev pub read_answer : List ℕ → List ℕ → Read
+abbrev pub read_answer : List ℕ → List ℕ → Answer
 read_answer text out = answer (read_verdict text (length out)) (packed (parse text))
 
 abbrev pub read_buffer : List ℕ → List ℕ → List ℕ
 read_buffer text out = buffer (read_verdict text (length out)) (packed (parse text)) out
 
 -- the number of each case: 0 for a length, else the refusal's
-abbrev pub read_number : Read → ℕ
-read_number (Length n) = 0
-read_number (ReadRefused r) = refusal_number r
+abbrev pub read_number : Answer → ℕ
+read_number (Ok n) = 0
+read_number (Err r) = refusal_number r

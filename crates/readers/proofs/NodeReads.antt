@@ -1,37 +1,33 @@
--- What a node reads, by its kind: children from kind 3 on, steps from kind 6 on.
+-- The children of a node: they are lower, and the first and the second of its record.
 use Prim.Native.Nat.{ℕ, ◌<◌, zero-le}
 use native.Mathlib.Decide.{dec_lt}
 use native.Mathlib.Omega.{arith}
-use mathlib.Core.Path.{◌≡◌, refl, sym, ap, ◌∙◌}
+use mathlib.Core.Path.{◌≡◌, sym, ap, ◌∙◌}
 use mathlib.Core.Bool.{true, false, ◌||◌, false≢true}
 use mathlib.Core.Logic.{◌⊎◌, inl, inr, ⊎_elim}
 use borrow.Author.Tests.{eqb-true}
 use lib.Dec.{eqb}
 use lib.ListN.{get_or}
 use Rattle.table.specs.declared.record.Node.{Node}
-use Rattle.table.specs.Family.{second_of}
+use Rattle.table.specs.Second.{second_of}
 use Rattle.table.proofs.Bools.{or_parts}
 use Rattle.table.proofs.Numbers.{four}
-use Rattle.ctl.specs.Rule.{constant, operators, operator_of}
+use Rattle.ctl.specs.Rule.{Operator, constant, atom, negation, conjunction, disjunction, next, fixpoint, operators, operator_of}
+use Rattle.ctl.proofs.BottomUp.{Below}
 use Rattle.ctl.proofs.OfKind.{past_kinds}
-use Rattle.readers.specs.Reads.{is_child, reads_steps}
+use Rattle.readers.specs.Reads.{is_child}
+
+-- a child has a lower number
+pub child_below : (i : ℕ) (o : Operator) → Below i o → (c : ℕ) → is_child o c ≡ true → c < i
+child_below i (constant b) l c e = absurd (false≢true e)
+child_below i (atom p) l c e = absurd (false≢true e)
+child_below i (negation a) l c e = omega (arith, l, eqb-true a c e)
+child_below i (conjunction a b) l c e = ⊎_elim (λ f. omega (arith, l.0, eqb-true a c f)) (λ f. omega (arith, l.1, eqb-true b c f)) (or_parts (eqb a c) (eqb b c) e)
+child_below i (disjunction a b) l c e = ⊎_elim (λ f. omega (arith, l.0, eqb-true a c f)) (λ f. omega (arith, l.1, eqb-true b c f)) (or_parts (eqb a c) (eqb b c) e)
+child_below i (next q a) l c e = omega (arith, l, eqb-true a c e)
+child_below i (fixpoint fam q a b) l c e = ⊎_elim (λ f. omega (arith, l.0, eqb-true a c f)) (λ f. omega (arith, l.1, eqb-true b c f)) (or_parts (eqb a c) (eqb b c) e)
 
 module _ (x : Node) where
-  pub no_child : x.kind < 3 → (c : ℕ) → is_child (operator_of x) c ≡ false
-  no_child h c = four Is 0 x.kind zero-le (omega arith) (λ l. refl) (λ l. refl) (λ l. refl) (λ l. absurd (omega arith)) h
-    where
-      Is : ℕ → Type 0
-      Is k = k < 3 → is_child (get_or (operators x.a x.b) k (constant false)) c ≡ false
-
-  pub no_steps : x.kind < 6 → reads_steps (operator_of x) ≡ false
-  no_steps h = elim (dec_lt x.kind 4) [
-    | yes l ↦ four Is 0 x.kind zero-le l (λ l. refl) (λ l. refl) (λ l. refl) (λ l. refl) h
-    | no d ↦ four Is 4 x.kind (omega (arith, d)) (omega arith) (λ l. refl) (λ l. refl) (λ l. absurd (omega arith)) (λ l. absurd (omega arith)) h
-  ]
-    where
-      Is : ℕ → Type 0
-      Is k = k < 6 → reads_steps (get_or (operators x.a x.b) k (constant false)) ≡ false
-
   -- a child is the first or the second
   pub child_is : (c : ℕ) → is_child (operator_of x) c ≡ true → (c ≡ x.a) ⊎ (c ≡ second_of x)
   child_is c = elim (dec_lt x.kind 4) [

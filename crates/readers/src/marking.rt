@@ -20,10 +20,9 @@ pub fn grown_at(old: Row, new: Row) -> u32
 }
 
 // The states of a set, and those with a step into it.
-fn spread(readers: &[u32], set: u32) -> u32
-    requires { length readers.now ≡ 65 }
-    ensures by_index { (t : ℕ) → member set t ≡ true → member result t ≡ true }
-    ensures by_index_2 { (t s : ℕ) → member set t ≡ true → member (get_or readers.now t 0) s ≡ true → member result s ≡ true }
+fn spread(readers: &[u32; 65], set: u32) -> u32
+    ensures own { (t : ℕ) → member set t ≡ true → member result t ≡ true }
+    ensures behind { (t s : ℕ) → member set t ≡ true → member (get_or readers.now t 0) s ≡ true → member result s ≡ true }
 {
     let mut all = set;
     let mut left = set;
@@ -40,7 +39,7 @@ fn spread(readers: &[u32], set: u32) -> u32
 pub fn put(words: &mut [u32], k: usize, set: u32)
     requires { k < length words.old }
     ensures raised { Raised words.old words.new }
-    ensures by_index { (s : ℕ) → member set s ≡ true → member (get_or words.new k 0) s ≡ true }
+    ensures added { (s : ℕ) → member set s ≡ true → member (get_or words.new k 0) s ≡ true }
 {
     let word = words[k];
     words[k] = word | set;
@@ -50,7 +49,7 @@ pub fn put(words: &mut [u32], k: usize, set: u32)
 pub fn raise(looks: &mut [u32], nodes: u32, set: u32)
     requires { 32 ≤ length looks.old }
     ensures raised { Raised looks.old looks.new }
-    ensures by_index { (i s : ℕ) → member nodes i ≡ true → member set s ≡ true → member (get_or looks.new i 0) s ≡ true }
+    ensures added { (i s : ℕ) → member nodes i ≡ true → member set s ≡ true → member (get_or looks.new i 0) s ≡ true }
 {
     let mut left = nodes;
     while left != 0 {
@@ -61,8 +60,8 @@ pub fn raise(looks: &mut [u32], nodes: u32, set: u32)
 }
 
 // The row of node c has changed at the states of a set.
-pub fn mark_node(readers: &[u32], looks: &mut [u32], c: usize, set: u32)
-    requires { (c < 32) × ((length readers.now ≡ 65) × (length looks.old ≡ 33)) }
+pub fn mark_node(readers: &[u32; 65], looks: &mut [u32; 33], c: usize, set: u32)
+    requires { c < 32 }
     ensures raised { Raised looks.old looks.new }
     ensures node_marked { NodeMarked readers.now looks.new c set }
 {
@@ -77,8 +76,7 @@ pub fn mark_node(readers: &[u32], looks: &mut [u32], c: usize, set: u32)
 }
 
 // The row of K has changed at the states of a set.
-pub fn mark_kept(readers: &[u32], looks: &mut [u32], set: u32)
-    requires { (length readers.now ≡ 65) × (length looks.old ≡ 33) }
+pub fn mark_kept(readers: &[u32; 65], looks: &mut [u32; 33], set: u32)
     ensures raised { Raised looks.old looks.new }
     ensures kept_marked { KeptMarked readers.now looks.new set }
 {
@@ -87,8 +85,7 @@ pub fn mark_kept(readers: &[u32], looks: &mut [u32], set: u32)
 }
 
 // The steps out of the states of a set have changed.
-pub fn mark_steps(readers: &[u32], looks: &mut [u32], set: u32)
-    requires { (length readers.now ≡ 65) × (length looks.old ≡ 33) }
+pub fn mark_steps(readers: &[u32; 65], looks: &mut [u32; 33], set: u32)
     ensures raised { Raised looks.old looks.new }
     ensures steps_marked { StepsMarked readers.now looks.new set }
 {

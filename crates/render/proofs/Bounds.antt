@@ -12,7 +12,7 @@ use Rattle.table.specs.declared.record.Step.{Step}
 use Rattle.table.specs.declared.record.Node.{Node}
 use Rattle.sheet.specs.Form.{Sheet, InRange, CountsInRange, StateInRange, StepInRange, NodeInRange, Every, decimal, ended, line, counts_line, state_line, step_line, node_line, bytes_of, render}
 use Rattle.render.proofs.Number.{low_length, high_length}
-use Rattle.render.proofs.Parts.{from_states_names, from_steps_names, from_nodes_names, render_parts}
+use Rattle.render.proofs.Parts.{nodes_block, from_steps, from_states, render_parts}
 
 -- a number ten times as large has at most one digit more
 pub more_digits : (limit n : ℕ) → ((w : ℕ) → w < limit → length (decimal w) ≤ n) → (v : ℕ) → v < 10 * limit → length (decimal v) ≤ n + 1
@@ -96,7 +96,7 @@ sheet-length v h n e f =
     omega (
       arith,
       ap length (render_parts v),
-      length-append (counts_line v.counts) (from_states_names v),
-      length-append (bytes_of state_line v.states) (from_steps_names v),
-      length-append (bytes_of step_line v.steps) (from_nodes_names v),
+      length-append (counts_line v.counts) (from_states v),
+      length-append (bytes_of state_line v.states) (from_steps v),
+      length-append (bytes_of step_line v.steps) (nodes_block v),
     )

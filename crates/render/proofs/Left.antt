@@ -44,20 +44,6 @@ module _ (before : List ℕ) (at : ℕ) (bytes : List ℕ) where
               ∙ l.same;
         }
 
-  -- so has the last part
-  pub left_room_all : (now : List ℕ) (place : ℕ) (part : List ℕ) → Left before at bytes now place part → Room before at bytes → Room now place part
-  left_room_all now place part l h =
-      let a = l.size in
-      let b = l.span in
-      omega arith
-
-  -- the last part is stored
-  pub left_end : (now : List ℕ) (place : ℕ) (part : List ℕ) → Left before at bytes now place part → (after : List ℕ) (next : ℕ) → Stored now place part after next → Stored before at bytes after next
-  left_end now place part l after next s =
-      let a = l.span in
-      let b = s.place in
-      record { place = omega arith; text = s.text ∙ l.same }
-
   -- nothing is left
   pub left_done : (now : List ℕ) (place : ℕ) → Left before at bytes now place [] → Stored before at bytes now place
   left_done now place l =
@@ -75,3 +61,13 @@ stored_as before at bytes other after next e s = subst (λ (r : List ℕ). Store
 
 pub room_as : (text : List ℕ) (at : ℕ) (bytes other : List ℕ) → bytes ≡ other → Room text at other → Room text at bytes
 room_as text at bytes other e h = subst (λ (r : List ℕ). Room text at r) (sym e) h
+
+-- bytes stored behind bytes that were stored
+pub stored_then : {before mid after xs ys : List ℕ} {at place next : ℕ} → Stored before at xs mid place → Stored mid place ys after next → Stored before at (xs ++ ys) after next
+stored_then {before} {mid} {after} {xs} {ys} {at} s t =
+    let a = s.place in
+    let b = t.place in
+    record {
+      place = omega (arith, length-append xs ys);
+      text = t.text ∙ ap₂ (λ (l : List ℕ) (k : ℕ). sets l k ys) s.text a ∙ sym (sets_append xs ys before at);
+    }

@@ -7,41 +7,39 @@ use lib.Dec.{leb}
 use lib.ListN.{length, drop}
 use Rattle.table.specs.declared.refusal.Refusal.{Refusal}
 use Rattle.table.specs.declared.refusal.Refusal.TheVariants.{ShortBuffer}
-use Rattle.table.specs.declared.refusal.Verdict.{Verdict}
-use Rattle.table.specs.declared.refusal.Verdict.TheVariants.{Accepted, Refused}
+use Rattle.table.specs.Verdict.{Verdict}
+use Rattle.std.specs.Prelude.{Ok, Err}
 use Rattle.table.specs.Verdict.{require}
 use Rattle.table.specs.Accept.{table_verdict}
 use Rattle.table.proofs.Verdicts.{then_refused, then_next}
 use Rattle.sheet.specs.Form.{render}
-use Rattle.reader.specs.Read.{buffer}
-use Rattle.render.specs.declared.answer.Rendered.{Rendered}
-use Rattle.render.specs.declared.answer.Rendered.TheVariants.{Length, Refused as RenderRefused}
-use Rattle.render.specs.Render.{sheet_of, render_verdict, rendered, render_answer, render_buffer}
+use Rattle.reader.specs.Read.{Answer, answer, buffer}
+use Rattle.render.specs.Render.{sheet_of, render_verdict, render_answer, render_buffer}
 
 module _ (table out : List ℕ) where
   -- an answer, and the buffer that goes with it
-  abbrev pub Outcome : Rendered → List ℕ → Type 0
+  abbrev pub Outcome : Answer → List ℕ → Type 0
   Outcome r after = (r ≡ render_answer table out) × (after ≡ render_buffer table out)
 
   abbrev text : List ℕ
   text = render (sheet_of table)
 
-  outcome : (w : Verdict) → render_verdict table (length out) ≡ w → Outcome (rendered w text) (buffer w text out)
-  outcome w h = (ap (λ (x : Verdict). rendered x text) (sym h), ap (λ (x : Verdict). buffer x text out) (sym h))
+  outcome : (w : Verdict) → render_verdict table (length out) ≡ w → Outcome (answer w text) (buffer w text out)
+  outcome w h = (ap (λ (x : Verdict). answer x text) (sym h), ap (λ (x : Verdict). buffer x text out) (sym h))
 
   -- refused by the table's tests
-  pub not_accepted : (r : Refusal) → table_verdict table ≡ Refused r → Outcome (RenderRefused r) out
+  pub not_accepted : (r : Refusal) → table_verdict table ≡ Err r → Outcome (Err r) out
   unfolding render_verdict
-  not_accepted r h = outcome (Refused r) (then_refused (table_verdict table) (require ShortBuffer (leb (length text) (length out))) r h ∙ h)
+  not_accepted r h = outcome (Err r) (then_refused (table_verdict table) (require ShortBuffer (leb (length text) (length out))) r h ∙ h)
 
   -- a sheet that does not fit the lent buffer
-  pub no_room : table_verdict table ≡ Accepted → length out < length text → Outcome (RenderRefused ShortBuffer) out
+  pub no_room : table_verdict table ≡ Ok tt → length out < length text → Outcome (Err ShortBuffer) out
   unfolding render_verdict
   no_room h l =
-      outcome (Refused ShortBuffer) (then_next (table_verdict table) (require ShortBuffer (leb (length text) (length out))) h ∙ ap (require ShortBuffer) (lt-leb (length text) (length out) l))
+      outcome (Err ShortBuffer) (then_next (table_verdict table) (require ShortBuffer (leb (length text) (length out))) h ∙ ap (require ShortBuffer) (lt-leb (length text) (length out) l))
 
   -- a sheet that fits
-  pub all-written : table_verdict table ≡ Accepted → length text ≤ length out → Outcome (Length (length text)) (text ++ drop (length text) out)
+  pub all-written : table_verdict table ≡ Ok tt → length text ≤ length out → Outcome (Ok (length text)) (text ++ drop (length text) out)
   unfolding render_verdict
   all-written h l =
-      outcome Accepted (then_next (table_verdict table) (require ShortBuffer (leb (length text) (length out))) h ∙ ap (require ShortBuffer) (le-leb (length text) (length out) l))
+      outcome (Ok tt) (then_next (table_verdict table) (require ShortBuffer (leb (length text) (length out))) h ∙ ap (require ShortBuffer) (le-leb (length text) (length out) l))

@@ -7,12 +7,11 @@ use native.Mathlib.Nat.{mul-zero, mul-suc}
 use native.Mathlib.Omega.{arith}
 use lib.ListN.{length, take, drop, length-drop, take-append-drop}
 use lib.Seq.{take_all, length-take-le, drop-drop}
-use Rattle.table.specs.declared.refusal.Verdict.TheVariants.{Accepted}
+use Rattle.std.specs.Prelude.{Ok}
 use Rattle.table.specs.Table.{records, counts_of, packed_length, state_of, step_of, node_of, states_part, steps_part, nodes_part, state_width, step_width, node_width, header_width}
 use Rattle.table.specs.Accept.{table_verdict}
-use Rattle.table.proofs.Accepted.{header_accepted}
+use Rattle.table.proofs.Facts.{header_accepted}
 use Rattle.table.proofs.Bytes.{Bytes, bytes_drop, bytes_part}
-use Rattle.reader.specs.declared.answer.Read.TheVariants.{Length}
 use Rattle.sheet.specs.Form.{Sheet, InRange, bytes_of, render}
 use Rattle.sheet.specs.Parse.{parse}
 use Rattle.reader.specs.Read.{pack_counts, pack_state, pack_step, pack_node, pack, read_answer, read_buffer}
@@ -99,7 +98,7 @@ module _ (l : List ℕ) (b : Bytes l) (size : length l ≡ packed_length (counts
       (λ i. counts_again l (omega arith) i ++ s i ++ x i ++ z i) ∙ sections
 
 -- reading the sheet of an accepted table: its verdict is test 10 alone, and what is packed is the table
-module _ (l : List ℕ) (b : Bytes l) (accepted : table_verdict l ≡ Accepted) where
+module _ (l : List ℕ) (b : Bytes l) (accepted : table_verdict l ≡ Ok tt) where
   same : pack (sheet_of l) ≡ l
   same = pack-sheet l b (header_accepted l accepted).1
 
@@ -108,10 +107,10 @@ module _ (l : List ℕ) (b : Bytes l) (accepted : table_verdict l ≡ Accepted) 
   parse-rendered = parse-render (sheet_of l) (sheet_range l b)
 
   -- into a buffer that is long enough: the length and the table come back
-  pub read_rendered : (out : List ℕ) → length l ≤ length out → (read_answer (render (sheet_of l)) out ≡ Length (length l)) × (read_buffer (render (sheet_of l)) out ≡ l ++ drop (length l) out)
+  pub read_rendered : (out : List ℕ) → length l ≤ length out → (read_answer (render (sheet_of l)) out ≡ Ok (length l)) × (read_buffer (render (sheet_of l)) out ≡ l ++ drop (length l) out)
   read_rendered out h =
       let o = accepted_read (render (sheet_of l)) out (sheet_of l) parse-rendered (ap table_verdict same ∙ accepted) (omega (arith, ap length same)) in
-      (sym o.0 ∙ ap (λ (t : List ℕ). Length (length t)) same, sym o.1 ∙ ap (λ (t : List ℕ). t ++ drop (length t) out) same)
+      (sym o.0 ∙ ap (λ (t : List ℕ). Ok (length t)) same, sym o.1 ∙ ap (λ (t : List ℕ). t ++ drop (length t) out) same)
 
 -- the sheet of a packed sheet is that sheet, so a text that is read is written back
 pub sheet-pack : (v : Sheet) → InRange v → sheet_of (pack v) ≡ v

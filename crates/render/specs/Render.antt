@@ -2,15 +2,12 @@
 use Rattle.std.specs.Prelude.{ℕ, ◌+◌, ◌≤◌, ◌≡◌, List, leb, length}
 use Rattle.std.proofs.lemmas.List.Edits.{sets}
 use Rattle.table.specs.declared.refusal.Refusal.TheVariants.{ShortBuffer}
-use Rattle.table.specs.declared.refusal.Verdict.{Verdict}
-use Rattle.table.specs.declared.refusal.Verdict.TheVariants.{Accepted, Refused}
+use Rattle.table.specs.Verdict.{Verdict}
 use Rattle.table.specs.Verdict.{require, ◌then◌}
 use Rattle.table.specs.Table.{counts_of, states_of, steps_of, nodes_of}
 use Rattle.table.specs.Accept.{table_verdict}
 use Rattle.sheet.specs.Form.{Sheet, render}
-use Rattle.reader.specs.Read.{buffer}
-use Rattle.render.specs.declared.answer.Rendered.{Rendered}
-use Rattle.render.specs.declared.answer.Rendered.TheVariants.{Length, Refused as RenderRefused}
+use Rattle.reader.specs.Read.{Answer, answer, buffer}
 
 -- the sheet of a packed table
 abbrev pub sheet_of : List ℕ → Sheet
@@ -20,14 +17,9 @@ sheet_of bytes = record { counts = counts_of bytes; states = states_of bytes; st
 unfoldable pub render_verdict : List ℕ → ℕ → Verdict
 render_verdict table room = table_verdict table then require ShortBuffer (leb (length (render (sheet_of table))) room)
 
--- accepted: the length is answered, and the sheet stands at the front of the buffer; refused: the buffer stays
-abbrev pub rendered : Verdict → List ℕ → Rendered
-rendered Accepted text = Length (length text)
-rendered (Refused r) text = RenderRefused r
-
 -- the outcome of the call for every table and every lent buffer
-abbrev pub render_answer : List ℕ → List ℕ → Rendered
-render_answer table out = rendered (render_verdict table (length out)) (render (sheet_of table))
+abbrev pub render_answer : List ℕ → List ℕ → Answer
+render_answer table out = answer (render_verdict table (length out)) (render (sheet_of table))
 
 abbrev pub render_buffer : List ℕ → List ℕ → List ℕ
 render_buffer table out = buffer (render_verdict table (length out)) (render (sheet_of table)) out

@@ -1,4 +1,6 @@
 // Bytes stored in a text from a place on. Each function answers the place behind what it stored.
+// The text and the place stay two parameters: a struct of both would hold a lent text, and each contract would have to say
+// besides that it still holds the same one (its ghost name).
 ghost use Rattle.sheet.specs.Form.{decimal, ended};
 ghost use Rattle.render.specs.Render.{Room, Stored};
 
@@ -8,14 +10,9 @@ pub fn put_bytes(text: &mut [u8], at: usize, bytes: &[u8]) -> usize
     requires { Room text.old at bytes.now }
     ensures { Stored text.old at bytes.now text.new result }
 {
-    let mut place = at;
-    let mut i = 0;
-    while i < bytes.len() {
-        text[place] = bytes[i];
-        place += 1;
-        i += 1;
-    }
-    place
+    let next = at + bytes.len();
+    text[at..next].copy_from_slice(bytes);
+    next
 }
 
 // A number in decimal: one digit, or the digits of its tenth and its last digit.

@@ -1,13 +1,11 @@
 // Writing a packed table back as a sheet, and the pieces of text that other crates write too.
 #![tactic(auto)]
 
-mod answer;
 mod emit;
-mod write_block;
+mod record;
 mod write_line;
 mod writer;
 
-pub use answer::Rendered;
 pub use emit::{put_bytes, put_field};
 pub use write_line::write_triple;
 pub use writer::render_table;

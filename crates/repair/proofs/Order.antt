@@ -8,8 +8,8 @@ use lib.Dec.{leb}
 use lib.ListN.{length}
 use Rattle.table.specs.declared.refusal.Refusal.{Refusal}
 use Rattle.table.specs.declared.refusal.Refusal.TheVariants.{ShortBuffer}
-use Rattle.table.specs.declared.refusal.Verdict.{Verdict}
-use Rattle.table.specs.declared.refusal.Verdict.TheVariants.{Accepted, Refused}
+use Rattle.table.specs.Verdict.{Verdict}
+use Rattle.std.specs.Prelude.{Ok, Err}
 use Rattle.table.specs.Verdict.{require}
 use Rattle.table.specs.Buffer.{on_accepted}
 use Rattle.table.specs.Table.{table_of}
@@ -18,39 +18,39 @@ use Rattle.table.proofs.Bools.{and_parts}
 use Rattle.table.proofs.Verdicts.{then_refused, then_next, then_accepted, require_accepted}
 use Rattle.circuit.specs.Variables.{variable_formula}
 use Rattle.search.specs.TableSearch.{search_under}
-use Rattle.repair.specs.declared.answer.Answer.{Answer}
+use Rattle.repair.specs.Answer.{Answer}
 use Rattle.repair.specs.Outcome.{repair_verdict, answer_at, written_after, cleared, repair_answer, repair_list, repair_bytes, repair_words}
 
 module _ (table list bytes words : List ℕ) where
-  pub table_refused : (r : Refusal) → table_verdict table ≡ Refused r → repair_verdict table list bytes words ≡ Refused r
+  pub table_refused : (r : Refusal) → table_verdict table ≡ Err r → repair_verdict table list bytes words ≡ Err r
   unfolding repair_verdict
   table_refused r h = then_refused (table_verdict table) _ r h ∙ h
 
   -- 10, by what its three parts say
-  room_tested : table_verdict table ≡ Accepted → (a b c : Bool)
+  room_tested : table_verdict table ≡ Ok tt → (a b c : Bool)
       → leb (length (table_of table).steps) (length list) ≡ a → leb (variable_formula (table_of table)) (length bytes) ≡ b → leb (variable_formula (table_of table)) (length words) ≡ c
       → repair_verdict table list bytes words ≡ require ShortBuffer (a && b && c)
   unfolding repair_verdict
   room_tested ok a b c p q r = then_next (table_verdict table) _ ok ∙ (λ j. require ShortBuffer (p j && q j && r j))
 
-  module _ (ok : table_verdict table ≡ Accepted) where
-    pub short_list : length list < length (table_of table).steps → repair_verdict table list bytes words ≡ Refused ShortBuffer
+  module _ (ok : table_verdict table ≡ Ok tt) where
+    pub short_list : length list < length (table_of table).steps → repair_verdict table list bytes words ≡ Err ShortBuffer
     short_list h = room_tested ok _ _ _ (lt-leb _ _ h) refl refl
 
     module _ (long : length (table_of table).steps ≤ length list) where
-      pub short_bytes : length bytes < variable_formula (table_of table) → repair_verdict table list bytes words ≡ Refused ShortBuffer
+      pub short_bytes : length bytes < variable_formula (table_of table) → repair_verdict table list bytes words ≡ Err ShortBuffer
       short_bytes h = room_tested ok _ _ _ (le-leb _ _ long) (lt-leb _ _ h) refl
 
       module _ (longer : variable_formula (table_of table) ≤ length bytes) where
-        pub short_words : length words < variable_formula (table_of table) → repair_verdict table list bytes words ≡ Refused ShortBuffer
+        pub short_words : length words < variable_formula (table_of table) → repair_verdict table list bytes words ≡ Err ShortBuffer
         short_words h = room_tested ok _ _ _ (le-leb _ _ long) (le-leb _ _ longer) (lt-leb _ _ h)
 
-        pub long_enough : variable_formula (table_of table) ≤ length words → repair_verdict table list bytes words ≡ Accepted
+        pub long_enough : variable_formula (table_of table) ≤ length words → repair_verdict table list bytes words ≡ Ok tt
         long_enough h = room_tested ok _ _ _ (le-leb _ _ long) (le-leb _ _ longer) (le-leb _ _ h)
 
 -- what accepting says: every test passed
-pub accepted_parts : (table list bytes words : List ℕ) → repair_verdict table list bytes words ≡ Accepted
-    → (table_verdict table ≡ Accepted)
+pub accepted_parts : (table list bytes words : List ℕ) → repair_verdict table list bytes words ≡ Ok tt
+    → (table_verdict table ≡ Ok tt)
     × (length (table_of table).steps ≤ length list)
     × (variable_formula (table_of table) ≤ length bytes)
     × (variable_formula (table_of table) ≤ length words)

@@ -1,21 +1,16 @@
 -- 01, "Calls", 1: what Repair answers, and what each of its three buffers holds afterwards, for all inputs.
-use Rattle.std.specs.Prelude.{ℕ, Bool, ◌&&◌, List, ◌++◌, leb, length, drop, replicate}
+use Rattle.std.specs.Prelude.{ℕ, Bool, ◌&&◌, List, ◌++◌, leb, length, drop, replicate, Ok, Err}
 use Rattle.table.specs.declared.refusal.Refusal.TheVariants.{ShortBuffer}
-use Rattle.table.specs.declared.refusal.Verdict.{Verdict}
-use Rattle.table.specs.declared.refusal.Verdict.TheVariants.{Accepted, Refused}
-use Rattle.table.specs.Verdict.{require, ◌then◌}
+use Rattle.table.specs.Verdict.{Verdict, require, ◌then◌}
 use Rattle.table.specs.Buffer.{on_accepted, over}
 use Rattle.table.specs.Table.{Table, table_of}
 use Rattle.table.specs.Accept.{table_verdict}
 use Rattle.ctl.specs.Reached.{strike}
 use Rattle.circuit.specs.Variables.{variable_formula}
-use Rattle.search.specs.declared.outcome.Outcome as Code
-use Rattle.search.specs.declared.outcome.Outcome.TheVariants as code
 use Rattle.search.specs.Search.{Outcome, found, none, spent}
 use Rattle.search.specs.TableSearch.{search_under, list_of}
 use Rattle.search.specs.Answer.{outcome_of}
-use Rattle.repair.specs.declared.answer.Answer.{Answer}
-use Rattle.repair.specs.declared.answer.Answer.TheVariants.{Found, None, Spent, Refused as AnswerRefused}
+use Rattle.repair.specs.Answer.{Answer}
 
 -- 10: the list has e bytes, and either work buffer V entries
 abbrev pub buffers_fit : Table → ℕ → ℕ → ℕ → Bool
@@ -27,15 +22,9 @@ repair_verdict table list bytes words =
     table_verdict table
     then require ShortBuffer (buffers_fit (table_of table) (length list) (length bytes) (length words))
 
--- what the search's code answers, carried over
-abbrev pub carried : Code.Outcome → Answer
-carried (code.Found p c k) = Found p c k
-carried (code.None c k) = None c k
-carried (code.Spent c k) = Spent c k
-
 -- what the search answers, with its price, its choices and the settled steps
 abbrev pub answer_of : Outcome → Answer
-answer_of outcome = carried (outcome_of outcome)
+answer_of outcome = Ok (outcome_of outcome)
 
 -- The lent list afterwards: found writes a byte for each step, and the rest stays. 02, A3: what is written is what the search finds, struck.
 abbrev pub written_after : Table → Outcome → List ℕ → List ℕ
@@ -45,8 +34,8 @@ written_after T (spent c k) list = list
 
 -- refused where a test refuses, else that
 abbrev pub answer_at : Verdict → Outcome → Answer
-answer_at Accepted outcome = answer_of outcome
-answer_at (Refused r) outcome = AnswerRefused r
+answer_at (Ok tt) outcome = answer_of outcome
+answer_at (Err r) outcome = Err r
 
 -- a work buffer: the first k entries 0, and the rest as it was
 abbrev pub cleared : ℕ → List ℕ → List ℕ

@@ -10,13 +10,12 @@ use lib.ListN.{length, get_or, take, drop}
 use lib.Seq.{take_at}
 use Rattle.table.specs.declared.record.Step.{Step}
 use Rattle.table.specs.declared.refusal.Refusal.TheVariants.{SheetForm, ShortBuffer}
-use Rattle.table.specs.declared.refusal.Verdict.{Verdict}
-use Rattle.table.specs.declared.refusal.Verdict.TheVariants.{Accepted}
+use Rattle.table.specs.Verdict.{Verdict}
+use Rattle.std.specs.Prelude.{Ok}
 use Rattle.table.specs.Buffer.{on_accepted}
 use Rattle.table.specs.Table.{Table, table_of, zero_step, step_at}
 use Rattle.table.specs.Accept.{table_verdict}
 use Rattle.table.proofs.Verdicts.{refused, then_accepted, require_accepted}
-use Rattle.reader.specs.declared.answer.Read.TheVariants.{Length}
 use Rattle.sheet.specs.Form.{Sheet, StepInRange, Every}
 use Rattle.sheet.specs.Parse.{parse}
 use Rattle.reader.specs.Read.{pack, packed, sheet_verdict, read_verdict, read_answer, read_buffer}
@@ -25,7 +24,7 @@ use Rattle.reader.proofs.Outcome.{length_back}
 use Rattle.reader.proofs.Packed.{table_pack}
 
 -- where every test passed, the packed table was accepted, and has room
-tests_passed : (p : Option Sheet) (room : ℕ) → sheet_verdict p room ≡ Accepted → (table_verdict (packed p) ≡ Accepted) × (length (packed p) ≤ room)
+tests_passed : (p : Option Sheet) (room : ℕ) → sheet_verdict p room ≡ Ok tt → (table_verdict (packed p) ≡ Ok tt) × (length (packed p) ≤ room)
 tests_passed none room h = absurd (refused SheetForm h)
 tests_passed (some v) room h =
     let t = then_accepted (table_verdict (pack v)) _ h in
@@ -37,14 +36,14 @@ step_prices (x ∷ steps) h zero = h.0.price
 step_prices (x ∷ steps) h (suc j) = step_prices steps h.1 j
 
 -- a sheet has a byte's value for each price
-packed_prices : (text : List ℕ) (room : ℕ) (p : Option Sheet) → parse text ≡ p → sheet_verdict p room ≡ Accepted → (j : ℕ) → (step_at (table_of (packed p)) j).price ≤ 255
+packed_prices : (text : List ℕ) (room : ℕ) (p : Option Sheet) → parse text ≡ p → sheet_verdict p room ≡ Ok tt → (j : ℕ) → (step_at (table_of (packed p)) j).price ≤ 255
 packed_prices text room none e h j = absurd (refused SheetForm h)
 packed_prices text room (some v) e h j =
     let range = ((parse_exact text v).0 e).0 in
     subst (λ (T : Table). (step_at T j).price ≤ 255) (sym (table_pack v range)) (step_prices v.steps range.steps j)
 
-module _ (text out : List ℕ) (k : ℕ) (e : read_answer text out ≡ Length k) where
-  passed : (table_verdict (packed (parse text)) ≡ Accepted) × (length (packed (parse text)) ≤ length out)
+module _ (text out : List ℕ) (k : ℕ) (e : read_answer text out ≡ Ok k) where
+  passed : (table_verdict (packed (parse text)) ≡ Ok tt) × (length (packed (parse text)) ≤ length out)
   unfolding read_verdict
   passed = tests_passed (parse text) (length out) (length_back (read_verdict text (length out)) (packed (parse text)) k e).0
 
@@ -60,7 +59,7 @@ module _ (text out : List ℕ) (k : ℕ) (e : read_answer text out ≡ Length k)
       (length_back (read_verdict text (length out)) (packed (parse text)) k e).0
       ∙ take_at (packed (parse text)) (drop (length (packed (parse text))) out) k size
 
-  pub read_accepted : table_verdict (take k (read_buffer text out)) ≡ Accepted
+  pub read_accepted : table_verdict (take k (read_buffer text out)) ≡ Ok tt
   read_accepted = ap table_verdict front ∙ passed.0
 
   pub read_prices : (j : ℕ) → (step_at (table_of (take k (read_buffer text out))) j).price ≤ 255

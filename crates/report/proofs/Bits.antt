@@ -6,8 +6,8 @@ use native.Mathlib.Decide.{dec_lt}
 use native.Mathlib.Omega.{arith}
 use lib.ListN.{length, get_or, drop, get_or-eq_default}
 use lib.Seq.{get_or-drop}
-use Rattle.table.specs.declared.refusal.Verdict.{Verdict}
-use Rattle.table.specs.declared.refusal.Verdict.TheVariants.{Accepted, Refused}
+use Rattle.table.specs.Verdict.{Verdict}
+use Rattle.std.specs.Prelude.{Ok, Err}
 use Rattle.table.specs.Buffer.{on_accepted}
 use Rattle.table.specs.Table.{Table, step_at}
 use Rattle.ctl.specs.Levels.{below}
@@ -56,5 +56,5 @@ outcome_bits T (none c k) list h = h
 outcome_bits T (spent c k) list h = h
 
 pub list_bits : (v : Verdict) (T : Table) (o : Outcome) (list : List ℕ) → Bits list → Bits (on_accepted v (written_after T o list) list)
-list_bits Accepted T o list h = outcome_bits T o list h
-list_bits (Refused r) T o list h = h
+list_bits (Ok tt) T o list h = outcome_bits T o list h
+list_bits (Err r) T o list h = h

@@ -9,8 +9,7 @@ use borrow.Author.Tests.{le-leb, lt-leb}
 use lib.ListN.{length, drop}
 use lib.Seq.{sets-eq}
 use Rattle.table.specs.declared.refusal.Refusal.TheVariants.{SheetForm}
-use Rattle.reader.specs.declared.answer.Read.{Read}
-use Rattle.reader.specs.Read.{read_answer, read_buffer}
+use Rattle.reader.specs.Read.{Answer, read_answer, read_buffer}
 use Rattle.render.specs.Render.{Room, Stored}
 use Rattle.report.specs.Report.{refused, zeros, read_text, limited, fit_text}
 use Rattle.report.proofs.Fits.{text_length}
@@ -22,7 +21,7 @@ module _ (text : List ℕ) where
   too_long h = ap (λ (b : Bool). limited b text) (lt-leb (length text) 4096 h)
 
   -- read, with an answer and a buffer
-  pub text_read : length text ≤ 4096 → (r : Read) (buffer : List ℕ) → r ≡ read_answer text (zeros 580) → buffer ≡ read_buffer text (zeros 580) → fit_text text ≡ read_text r buffer
+  pub text_read : length text ≤ 4096 → (r : Answer) (buffer : List ℕ) → r ≡ read_answer text (zeros 580) → buffer ≡ read_buffer text (zeros 580) → fit_text text ≡ read_text r buffer
   unfolding fit_text
   text_read h r buffer e k = ap (λ (b : Bool). limited b text) (le-leb (length text) 4096 h) ∙ (λ i. read_text (sym e i) (sym k i))
 

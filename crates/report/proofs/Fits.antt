@@ -10,20 +10,18 @@ use lib.ListN.{length, take, length-append}
 use Rattle.table.specs.declared.record.Step.{Step}
 use Rattle.table.specs.declared.refusal.Refusal.{Refusal}
 use Rattle.table.specs.declared.refusal.Refusal.TheVariants as refusal
-use Rattle.table.specs.declared.refusal.Verdict.{Verdict}
-use Rattle.table.specs.declared.refusal.Verdict.TheVariants.{Accepted, Refused}
+use Rattle.table.specs.Verdict.{Verdict}
+use Rattle.std.specs.Prelude.{Ok, Err}
 use Rattle.table.specs.Verdict.{refusal_number}
 use Rattle.table.specs.Table.{table_of, steps_of, step_at}
 use Rattle.table.specs.Accept.{all, step_fits, table_verdict}
-use Rattle.table.proofs.Accepted.{accepted, step_within, header_accepted, records_accepted}
+use Rattle.table.proofs.Facts.{accepted, step_within, header_accepted, records_accepted}
 use Rattle.table.proofs.Bools.{and_parts}
 use Rattle.search.specs.Search.{Outcome, found, none, spent}
 use Rattle.search.specs.TableSearch.{search_under}
 use Rattle.search.specs.Right.{choices}
-use Rattle.reader.specs.declared.answer.Read.{Read}
-use Rattle.reader.specs.declared.answer.Read.TheVariants.{Length, Refused as ReadRefused}
 use Rattle.sheet.specs.Form.{ascii, decimal, ended, line}
-use Rattle.reader.specs.Read.{read_answer, read_buffer}
+use Rattle.reader.specs.Read.{Answer, read_answer, read_buffer}
 use Rattle.render.proofs.Number.{low_length}
 use Rattle.render.proofs.Bounds.{more_digits, ended-length}
 use Rattle.repair.specs.Outcome.{repair_verdict, answer_at, answer_of, repair_list}
@@ -102,10 +100,10 @@ outcome_length table (none c k) list few cheap short = omega (arith, values_leng
 outcome_length table (spent c k) list few cheap short = omega (arith, values_length c 0 few cheap)
 
 answer-length : (table : List ℕ) (v : Verdict) (o : Outcome) (list : List ℕ) → choices o ≤ cap → price o ≤ 32640 → length (kept_lines (steps_of table) list) ≤ 1024 → length (answer_text table (answer_at v o) list) ≤ 1078
-answer-length table Accepted o list few cheap short = outcome_length table o list few cheap short
-answer-length table (Refused r) o list few cheap short = refused-length r
+answer-length table (Ok tt) o list few cheap short = outcome_length table o list few cheap short
+answer-length table (Err r) o list few cheap short = refused-length r
 
-table_length : (table : List ℕ) → table_verdict table ≡ Accepted → ((j : ℕ) → (step_at (table_of table) j).price ≤ 255) → length (table_text table) ≤ 1078
+table_length : (table : List ℕ) → table_verdict table ≡ Ok tt → ((j : ℕ) → (step_at (table_of table) j).price ≤ 255) → length (table_text table) ≤ 1078
 unfolding table_text
 table_length table ok bytes =
     let T = table_of table in
@@ -123,9 +121,9 @@ table_length table ok bytes =
 limited-length : (b : Bool) (text : List ℕ) → length (limited b text) ≤ 1078
 limited-length true text = by (read_answer text (zeros 580)) refl
   where
-    by : (r : Read) → read_answer text (zeros 580) ≡ r → length (read_text r (read_buffer text (zeros 580))) ≤ 1078
-    by (Length k) e = table_length (take k (read_buffer text (zeros 580))) (read_accepted text (zeros 580) k e) (read_prices text (zeros 580) k e)
-    by (ReadRefused r) e = refused-length r
+    by : (r : Answer) → read_answer text (zeros 580) ≡ r → length (read_text r (read_buffer text (zeros 580))) ≤ 1078
+    by (Ok k) e = table_length (take k (read_buffer text (zeros 580))) (read_accepted text (zeros 580) k e) (read_prices text (zeros 580) k e)
+    by (Err r) e = refused-length r
 limited-length false text = refused-length refusal.SheetForm
 
 pub text_length : (text : List ℕ) → length (fit_text text) ≤ 1078

@@ -1,16 +1,14 @@
 -- 01, "The sheet", as 02's A4 has it: what program `fit` prints, for every text that it reads.
-use Rattle.std.specs.Prelude.{ℕ, Bool, true, false, List, [], ◌∷◌, ◌++◌, leb, length, take, replicate}
+use Rattle.std.specs.Prelude.{ℕ, Bool, true, false, List, [], ◌∷◌, ◌++◌, leb, length, take, replicate, Result, Ok, Err}
 use Rattle.table.specs.declared.record.Step.{Step}
 use Rattle.table.specs.declared.refusal.Refusal.{Refusal}
 use Rattle.table.specs.declared.refusal.Refusal.TheVariants.{SheetForm}
 use Rattle.table.specs.Verdict.{refusal_number}
 use Rattle.table.specs.Table.{steps_of}
-use Rattle.reader.specs.declared.answer.Read.{Read}
-use Rattle.reader.specs.declared.answer.Read.TheVariants.{Length, Refused as ReadRefused}
+use Rattle.search.specs.declared.outcome.Outcome.{Outcome}
+use Rattle.search.specs.declared.outcome.Outcome.TheVariants.{Found, None, Spent}
 use Rattle.sheet.specs.Form.{ascii, line}
-use Rattle.reader.specs.Read.{read_answer, read_buffer}
-use Rattle.repair.specs.declared.answer.Answer.{Answer}
-use Rattle.repair.specs.declared.answer.Answer.TheVariants.{Found, None, Spent, Refused}
+use Rattle.reader.specs.Read.{Answer, read_answer, read_buffer}
 use Rattle.repair.specs.Outcome.{repair_answer, repair_list}
 
 -- found, none and spent come with the choices and the price, refused with the refusal's number
@@ -34,11 +32,11 @@ abbrev pub found_text : List ℕ → ℕ → ℕ → List ℕ → List ℕ
 found_text table price choices list = counted (ascii "found ") choices price ++ (ascii "from to kept\n" ++ kept_lines (steps_of table) list)
 
 -- What is printed of Repair's answer and of the list that it leaves: "price 0 for none and spent". The settled steps are not printed.
-abbrev pub answer_text : List ℕ → Answer → List ℕ → List ℕ
-answer_text table (Found price choices settled) list = found_text table price choices list
-answer_text table (None choices settled) list = counted (ascii "none ") choices 0
-answer_text table (Spent choices settled) list = counted (ascii "spent ") choices 0
-answer_text table (Refused r) list = refused r
+abbrev pub answer_text : List ℕ → Result Outcome Refusal → List ℕ → List ℕ
+answer_text table (Ok (Found price choices settled)) list = found_text table price choices list
+answer_text table (Ok (None choices settled)) list = counted (ascii "none ") choices 0
+answer_text table (Ok (Spent choices settled)) list = counted (ascii "spent ") choices 0
+answer_text table (Err r) list = refused r
 
 -- 128 list bytes and 10,000 work entries, all zero at first, and the cap
 abbrev pub zeros : ℕ → List ℕ
@@ -54,9 +52,9 @@ table_text table =
     (repair_list table cap (zeros 128) (zeros 10000) (zeros 10000))
 
 -- what is printed of Read's answer and of the buffer that it leaves
-abbrev pub read_text : Read → List ℕ → List ℕ
-read_text (Length k) buffer = table_text (take k buffer)
-read_text (ReadRefused r) buffer = refused r
+abbrev pub read_text : Answer → List ℕ → List ℕ
+read_text (Ok k) buffer = table_text (take k buffer)
+read_text (Err r) buffer = refused r
 
 -- a text of at most 4,096 bytes is read into 580 bytes, a longer one is refused with 1
 abbrev pub limited : Bool → List ℕ → List ℕ

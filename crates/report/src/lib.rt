@@ -6,14 +6,11 @@ mod lines;
 mod steps;
 
 ghost use Rattle.std.specs.Prelude.{◌≡◌, ◌++◌, ◌≤◌, length, drop};
-ghost use Rattle.table.specs.declared.refusal.Verdict.TheVariants.{Accepted};
-ghost use Rattle.table.specs.Accept.{table_verdict};
 ghost use Rattle.render.specs.Render.{Room, Stored};
 ghost use Rattle.report.specs.Report.{table_text, fit_text};
 
 use answer::{write_refused, write_result};
-use reader::Read;
-use table::Refusal;
+use table::{Accepted, Refusal};
 
 // The most bytes that are taken.
 const MOST: usize = 4096;
@@ -21,15 +18,14 @@ const MOST: usize = 4096;
 // The most choices that the search makes.
 const CAP: u64 = 1000000;
 
-fn report_table(table: &[u8], out: &mut [u8]) -> usize
-    requires table_value { table_verdict table.now ≡ Accepted }
-    requires room { Room out.old 0 (table_text table.now) }
-    ensures { Stored out.old 0 (table_text table.now) out.new result }
+fn report_table(table: &Accepted<'_>, out: &mut [u8]) -> usize
+    requires { Room out.old 0 (table_text table.now.bytes.now) }
+    ensures { Stored out.old 0 (table_text table.now.bytes.now) out.new result }
 {
     let mut list = [0u8; 128];
     let mut bytes = [0u8; 10000];
     let mut words = [0u32; 10000];
-    let answer = repair::repair(table, CAP, &mut list, &mut bytes, &mut words);
+    let answer = repair::repair(table.bytes, CAP, &mut list, &mut bytes, &mut words);
     write_result(table, answer, &list, out)
 }
 
@@ -44,7 +40,10 @@ pub fn fit_report(text: &[u8], out: &mut [u8]) -> usize
     }
     let mut table = [0u8; 580];
     match reader::read(text, &mut table) {
-        Read::Length(n) => report_table(&table[..n], out),
-        Read::Refused(refusal) => write_refused(out, refusal),
+        Ok(n) => {
+            let accepted = Accepted::new(&table[..n]);
+            report_table(&accepted, out)
+        }
+        Err(refusal) => write_refused(out, refusal),
     }
 }

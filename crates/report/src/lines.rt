@@ -5,6 +5,7 @@ ghost use Rattle.report.specs.Report.{counted};
 use render::{put_bytes, put_field};
 use sheet::{NEWLINE, SPACE};
 
+#[tactic(auto, unfolding(sheet::specs::Form::line))]
 pub fn write_answer(text: &mut [u8], word: &[u8], choices: usize, price: usize) -> usize
     requires { Room text.old 0 (counted word.now choices price) }
     ensures { Stored text.old 0 (counted word.now choices price) text.new result }

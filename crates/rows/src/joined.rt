@@ -2,10 +2,12 @@
 ghost use Rattle.std.specs.Prelude.{◌≡◌, false};
 ghost use Rattle.rows.specs.Rules.{join_release, join_always, turned_joined, join_of};
 
-use crate::row::{Row, turn};
+use crate::row::{Row, clashes, new_of, turn, union};
+use crate::rules::{and_input, and_output};
 use table::Family;
 
 // What the level and the children a and b get, N with what the level adds to it, that alone, and whether G or N is known both ways.
+// Where it fails the rows are added all the same, so it is no option.
 #[derive(Clone, Copy)]
 pub struct Joined {
     pub level: Row,
@@ -20,32 +22,30 @@ pub struct Joined {
 fn join_release(level: Row, a: Row, b: Row, ahead: Row) -> Joined
     ensures { result ≡ join_release level a b ahead }
 {
-    let either_yes = a.yes | ahead.yes | level.yes;
-    let either_no = a.no & ahead.no | level.no & b.yes;
-    let ahead_yes = ahead.yes | either_yes & a.no;
-    let ahead_no = ahead.no | either_no;
+    let either = Row {
+        yes: a.yes | ahead.yes | level.yes,
+        no: a.no & ahead.no | level.no & b.yes,
+    };
+    let next = Row {
+        yes: ahead.yes | either.yes & a.no,
+        no: ahead.no | either.no,
+    };
     Joined {
         level: Row {
-            yes: b.yes & either_yes,
-            no: b.no | either_no,
+            yes: b.yes & either.yes,
+            no: b.no | either.no,
         },
         a: Row {
-            yes: either_yes & ahead.no,
-            no: either_no,
+            yes: either.yes & ahead.no,
+            no: either.no,
         },
         b: Row {
             yes: level.yes,
-            no: level.no & either_yes,
+            no: level.no & either.yes,
         },
-        ahead: Row {
-            yes: ahead_yes,
-            no: ahead_no,
-        },
-        more: Row {
-            yes: ahead_yes & !ahead.yes,
-            no: ahead_no & !ahead.no,
-        },
-        fails: either_yes & either_no != 0 || ahead_yes & ahead_no != 0,
+        ahead: next,
+        more: new_of(next, ahead),
+        fails: clashes(either) || clashes(next),
     }
 }
 
@@ -53,29 +53,15 @@ fn join_release(level: Row, a: Row, b: Row, ahead: Row) -> Joined
 fn join_always(level: Row, b: Row, ahead: Row) -> Joined
     ensures { result ≡ join_always level b ahead }
 {
-    let up_yes = level.yes | b.yes & ahead.yes;
-    let up_no = level.no | (b.no | ahead.no);
-    let ahead_yes = ahead.yes | up_yes;
-    let ahead_no = ahead.no | up_no & b.yes;
+    let up = and_output(level, b, ahead);
+    let next = union(ahead, and_input(up, b));
     Joined {
-        level: Row {
-            yes: up_yes,
-            no: up_no,
-        },
-        a: Row { yes: 0, no: 0 },
-        b: Row {
-            yes: up_yes,
-            no: up_no & ahead.yes,
-        },
-        ahead: Row {
-            yes: ahead_yes,
-            no: ahead_no,
-        },
-        more: Row {
-            yes: ahead_yes & !ahead.yes,
-            no: ahead_no & !ahead.no,
-        },
-        fails: ahead_yes & ahead_no != 0,
+        level: up,
+        a: Row::default(),
+        b: and_input(up, ahead),
+        ahead: next,
+        more: new_of(next, ahead),
+        fails: clashes(next),
     }
 }
 
@@ -84,26 +70,11 @@ fn turn_joined(j: Joined) -> Joined
     ensures { result ≡ turned_joined false j }
 {
     Joined {
-        level: Row {
-            yes: j.level.no,
-            no: j.level.yes,
-        },
-        a: Row {
-            yes: j.a.no,
-            no: j.a.yes,
-        },
-        b: Row {
-            yes: j.b.no,
-            no: j.b.yes,
-        },
-        ahead: Row {
-            yes: j.ahead.no,
-            no: j.ahead.yes,
-        },
-        more: Row {
-            yes: j.more.no,
-            no: j.more.yes,
-        },
+        level: turn(false, j.level),
+        a: turn(false, j.a),
+        b: turn(false, j.b),
+        ahead: turn(false, j.ahead),
+        more: turn(false, j.more),
         fails: j.fails,
     }
 }

@@ -1,28 +1,29 @@
 // N, the AND over the steps out of a state of "struck, or the end has it", forward and back.
-ghost use Rattle.std.specs.Prelude.{◌≡◌, ◌≤◌, length, get_or};
+ghost use Rattle.std.specs.Prelude.{◌≡◌, ◌<◌, ◌≤◌, true, false, get_or};
+ghost use Rattle.rows.specs.Row.{known};
 ghost use Rattle.rows.specs.Rules.{ahead_at};
 ghost use Rattle.rows.specs.Words.{row_at, step_place};
 ghost use Rattle.rows.specs.Back.{pushed, back_rows, back_row, back_report};
 
-use crate::row::{Report, Row, add_step, both, is_only, row_at};
+use crate::row::{Report, Row, add_step, both, last_left, step_row, union};
 
 // N at each state of a set: true where no step is left, false where a kept step's end is known false.
-pub fn ahead(targets: &[u32], rows: &[u32], set: u32, end: Row) -> Row
-    requires { (length targets.now ≡ 32) × (length rows.now ≡ 130) }
+pub fn ahead(targets: &[u32; 32], rows: &[u32; 130], set: u32, end: Row) -> Row
     ensures { result ≡ ahead_at (λ s. get_or targets.now s 0) (λ s. row_at rows.now (step_place s)) set end }
 {
     let mut yes = 0u32;
     let mut no = 0u32;
+    // Members are taken off, the lowest first: a `for` over all states would ask of each whether it is one.
     let mut left = set;
     while left != 0 {
         let s = sets::lowest(left);
-        let x = row_at(rows, 2 * s);
+        let x = step_row(rows, s);
         let unmet = targets[s] & !(x.no | end.yes);
         yes = sets::insert_if(yes, s, unmet == 0);
         no = sets::insert_if(no, s, x.yes & end.no != 0);
         left = sets::remove(left, s);
     }
-    Row { yes: yes, no: no }
+    Row { yes, no }
 }
 
 // What N at one state adds to the steps out of it, and to what is known at their ends.
@@ -32,12 +33,13 @@ pub struct Pushed {
     pub end: Row,
 }
 
-fn push(target: u32, step: Row, end: Row, yes: bool, no: bool) -> Pushed
-    ensures { result ≡ pushed target step end «yes» «no» }
+// N at each state is known as `ahead` says.
+fn push(s: usize, target: u32, step: Row, ahead: Row, end: Row) -> Pushed
+    ensures { result ≡ pushed target step end (known ahead true s) (known ahead false s) }
 {
     let unmet = target & !(step.no | end.yes);
-    let last = if no && is_only(unmet) { unmet } else { 0 };
-    if yes {
+    let last = last_left(sets::contains(ahead.no, s), unmet);
+    if sets::contains(ahead.yes, s) {
         return Pushed {
             steps: Row {
                 yes: last,
@@ -63,36 +65,21 @@ pub struct Back {
 }
 
 // Adds to the step rows what N, known at each state as `ahead` says, forces of them.
-pub fn go_back(targets: &[u32], rows: &mut [u32], n: usize, ahead: Row, end: Row) -> Back
-    requires { (n ≤ 32) × ((length targets.now ≡ 32) × (length rows.old ≡ 130)) }
+pub fn go_back(targets: &[u32; 32], rows: &mut [u32; 130], n: usize, ahead: Row, end: Row) -> Back
+    requires { n ≤ 32 }
     ensures end_value { result.end ≡ back_row targets.now ahead end rows.old n }
     ensures report_value { result.report ≡ back_report targets.now ahead end rows.old n }
     ensures rows_after { rows.new ≡ back_rows targets.now ahead end rows.old n }
 {
-    let mut yes = 0u32;
-    let mut no = 0u32;
-    let mut report = Report {
-        changed: false,
-        fails: false,
-        steps: 0,
+    let mut back = Back {
+        end: Row::default(),
+        report: Report::default(),
     };
-    let mut s = 0;
-    while s < n {
-        let x = row_at(rows, 2 * s);
-        let p = push(
-            targets[s],
-            x,
-            end,
-            sets::contains(ahead.yes, s),
-            sets::contains(ahead.no, s),
-        );
-        yes = yes | p.end.yes;
-        no = no | p.end.no;
-        report = both(report, add_step(rows, s, p.steps));
-        s += 1;
+    for s in 0..n {
+        let x = step_row(rows, s);
+        let p = push(s, targets[s], x, ahead, end);
+        back.end = union(back.end, p.end);
+        back.report = both(back.report, add_step(rows, s, p.steps));
     }
-    Back {
-        end: Row { yes: yes, no: no },
-        report: report,
-    }
+    back
 }

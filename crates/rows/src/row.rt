@@ -1,18 +1,19 @@
 // A row: what is known of one kind of variable, a bit for each state.
-ghost use Rattle.std.specs.Prelude.{◌≡◌, ◌+◌, ◌<◌, length};
-ghost use Rattle.rows.specs.Row.{turned, only, same_row};
+ghost use Rattle.std.specs.Prelude.{◌≡◌, ◌+◌, ◌<◌, ◌&&◌, cond, length};
+ghost use Rattle.rows.specs.Row.{turned, only, union, clashes};
 ghost use Rattle.rows.specs.Rules.{masked, new_of, is_none};
 ghost use Rattle.rows.specs.Words.{row_at, joined, report_of, step_report, both_reports, quiet, step_place};
 
 // The states where the variable is known true, and those where it is known false.
-#[derive(Clone, Copy)]
+#[derive(Clone, Copy, PartialEq, Eq, Default)]
 pub struct Row {
     pub yes: u32,
     pub no: u32,
 }
 
-// What a rule did: whether it added a bit, whether something is now known both ways, and the states whose steps got a bit.
-#[derive(Clone, Copy)]
+// What a rule did: whether it added a bit, whether something is now known both ways, and the states whose steps got a bit. By default it did nothing.
+// A rule that fails may still have added bits, so the flags stand beside the set and are no option of it.
+#[derive(Clone, Copy, PartialEq, Eq, Default)]
 pub struct Report {
     pub changed: bool,
     pub fails: bool,
@@ -49,13 +50,21 @@ pub fn is_quiet(r: Report) -> bool
     !(r.changed | r.fails)
 }
 
-pub fn is_same(r: Row, q: Row) -> bool
-    ensures { result ≡ same_row r q }
+// All that either row knows.
+pub fn union(r: Row, q: Row) -> Row
+    ensures { result ≡ union r q }
 {
-    if r.yes != q.yes {
-        return false;
+    Row {
+        yes: r.yes | q.yes,
+        no: r.no | q.no,
     }
-    r.no == q.no
+}
+
+// Whether something is known both ways.
+pub fn clashes(r: Row) -> bool
+    ensures { result ≡ clashes r }
+{
+    r.yes & r.no != 0
 }
 
 // What r knows that q does not.
@@ -89,10 +98,14 @@ pub fn is_none(r: Row) -> bool
 pub fn is_only(set: u32) -> bool
     ensures { result ≡ only set }
 {
-    if set == 0 {
-        return false;
-    }
-    sets::remove(set, sets::lowest(set)) == 0
+    set != 0 && sets::remove(set, sets::lowest(set)) == 0
+}
+
+// The last one left, where one has to be taken; else none.
+pub fn last_left(forced: bool, left: u32) -> u32
+    ensures { result ≡ cond (forced && only left) left 0 }
+{
+    if forced && is_only(left) { left } else { 0 }
 }
 
 pub fn row_at(words: &[u32], at: usize) -> Row
@@ -112,27 +125,34 @@ pub fn add(words: &mut [u32], at: usize, x: Row) -> Report
     ensures words_after { words.new ≡ joined words.old at x }
 {
     let old = row_at(words, at);
-    let yes = old.yes | x.yes;
-    let no = old.no | x.no;
-    words[at] = yes;
-    words[at + 1] = no;
+    let all = union(old, x);
+    words[at] = all.yes;
+    words[at + 1] = all.no;
     Report {
-        changed: yes != old.yes || no != old.no,
-        fails: yes & no != 0,
+        changed: all != old,
+        fails: clashes(all),
         steps: 0,
     }
 }
 
-// The same for the row of the steps out of s.
-pub fn add_step(words: &mut [u32], s: usize, x: Row) -> Report
-    requires { (s < 32) × (length words.old ≡ 130) }
-    ensures value { result ≡ step_report words.old s x }
-    ensures words_after { words.new ≡ joined words.old (step_place s) x }
+// The row of the steps out of s. A state is a plain number, with its bound in the contracts: it is a field of a record or counted by a loop, and a type
+// of its own would be made anew at each call.
+pub fn step_row(rows: &[u32; 130], s: usize) -> Row
+    requires { s < 32 }
+    ensures { result ≡ row_at rows.now (step_place s) }
 {
-    let r = add(words, 2 * s, x);
+    row_at(rows, 2 * s)
+}
+
+// Adds to it; the report says whether the steps out of s got a bit.
+pub fn add_step(rows: &mut [u32; 130], s: usize, x: Row) -> Report
+    requires { s < 32 }
+    ensures value { result ≡ step_report rows.old s x }
+    ensures rows_after { rows.new ≡ joined rows.old (step_place s) x }
+{
+    let r = add(rows, 2 * s, x);
     Report {
-        changed: r.changed,
-        fails: r.fails,
         steps: sets::insert_if(0, s, r.changed),
+        ..r
     }
 }

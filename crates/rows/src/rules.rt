@@ -2,7 +2,7 @@
 ghost use Rattle.std.specs.Prelude.{◌≡◌, ◌<◌};
 ghost use Rattle.rows.specs.Rules.{kept_row, kept_steps, and_output, and_input, constant_row};
 
-use crate::row::{Row, is_only};
+use crate::row::{Row, last_left};
 
 // What the steps out of s add to K.
 pub fn kept_row(s: usize, target: u32, step: Row) -> Row
@@ -20,11 +20,7 @@ pub fn kept_steps(s: usize, target: u32, step: Row, kept: Row) -> Row
     ensures { result ≡ kept_steps s target step kept }
 {
     let left = target & !step.no;
-    let last = if sets::contains(kept.yes, s) && is_only(left) {
-        left
-    } else {
-        0
-    };
+    let last = last_left(sets::contains(kept.yes, s), left);
     let own = if sets::contains(kept.no, s) {
         target
     } else {

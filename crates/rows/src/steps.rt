@@ -1,5 +1,5 @@
 // The step rows: what is known of each step.
-ghost use Rattle.std.specs.Prelude.{◌≡◌, ◌<◌, length};
+ghost use Rattle.std.specs.Prelude.{◌≡◌, ◌<◌};
 ghost use Rattle.rows.specs.Steps.{word_of, step_bit, step_settled};
 
 use table::Step;
@@ -9,15 +9,12 @@ pub fn word_of(s: usize, kept: bool) -> usize
     requires { s < 32 }
     ensures { result ≡ word_of kept s }
 {
-    if kept {
-        return 2 * s;
-    }
-    2 * s + 1
+    if kept { 2 * s } else { 2 * s + 1 }
 }
 
 // Whether the step is known kept, or known struck.
-pub fn is_known(rows: &[u32], x: Step, kept: bool) -> bool
-    requires { (x.from < 32) × (length rows.now ≡ 130) }
+pub fn is_known(rows: &[u32; 130], x: Step, kept: bool) -> bool
+    requires { x.from < 32 }
     ensures { result ≡ step_bit rows.now kept x }
 {
     let at = word_of(x.from, kept);
@@ -25,12 +22,9 @@ pub fn is_known(rows: &[u32], x: Step, kept: bool) -> bool
 }
 
 // Whether the step is known either way.
-pub fn is_settled(rows: &[u32], x: Step) -> bool
-    requires { (x.from < 32) × (length rows.now ≡ 130) }
+pub fn is_settled(rows: &[u32; 130], x: Step) -> bool
+    requires { x.from < 32 }
     ensures { result ≡ step_settled rows.now x }
 {
-    if is_known(rows, x, true) {
-        return true;
-    }
-    is_known(rows, x, false)
+    is_known(rows, x, true) || is_known(rows, x, false)
 }

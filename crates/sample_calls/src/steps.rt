@@ -8,12 +8,10 @@ fn stepped() -> [u8; 490] {
     table[0] = 32;
     table[2] = 1;
     table[4] = 1;
-    let mut j = 0;
-    while j < 129 {
+    for j in 0..129 {
         table[100 + 3 * j] = (j / 32) as u8;
         table[101 + 3 * j] = (j % 32) as u8;
         table[102 + 3 * j] = j as u8;
-        j += 1;
     }
     table
 }

@@ -7,10 +7,10 @@ use native.Mathlib.Omega.{arith}
 use borrow.Author.Tests.{le-ltb}
 use lib.Dec.{ltb}
 use Rattle.sets.specs.Member.{member, count_of}
-use Rattle.table.specs.declared.refusal.Verdict.TheVariants.{Accepted}
+use Rattle.std.specs.Prelude.{Ok}
 use Rattle.table.specs.Table.{Table, table_of, records}
 use Rattle.table.specs.Accept.{all, any, distinct, nodes_fit, table_verdict, list_verdict}
-use Rattle.table.proofs.Accepted.{accepted}
+use Rattle.table.proofs.Facts.{accepted}
 use Rattle.ctl.specs.Rule.{bottom_up}
 use Rattle.ctl.specs.Levels.{tabulate, iterate, next_in, level, levels, select}
 use Rattle.ctl.specs.Labels.{kept_steps, ends_from, label_of, label}
@@ -96,7 +96,7 @@ module _ (p q r s : ℕ) where
   unfolding member records all any tabulate iterate next_in level levels kept_steps ends_from reached_set strike select same_code
   struck = refl
 
-  is_accepted : table_verdict (priced p q r s) ≡ Accepted
+  is_accepted : table_verdict (priced p q r s) ≡ Ok tt
   unfolding member records all any distinct nodes_fit table_verdict
   is_accepted = refl
 

@@ -1,8 +1,7 @@
 -- Samples of Holding: its answer, and what a buffer of five bytes, each 9, holds after the call.
-use Rattle.std.specs.Prelude.{ℕ, Bool, ◌&&◌, List, [], ◌∷◌, ◌++◌, eqb, replicate}
+use Rattle.std.specs.Prelude.{ℕ, Bool, ◌&&◌, List, [], ◌∷◌, ◌++◌, eqb, replicate, Result, Ok, Err}
+use Rattle.table.specs.declared.refusal.Refusal.{Refusal}
 use Rattle.table.specs.Verdict.{refusal_number}
-use Rattle.label.specs.declared.holding.Holding.{Holding}
-use Rattle.label.specs.declared.holding.Holding.TheVariants.{Count, Refused}
 use Rattle.label.specs.Calls.{holding_answer, holding_buffer}
 use Rattle.closure.specs.Numbered.{same_code}
 use Rattle.samples.specs.Samples.{sheet}
@@ -15,9 +14,9 @@ pub record HoldingCase : Type 0 where
   pub count : ℕ
   pub after : List ℕ
 
-unfoldable pub gives : ℕ → ℕ → Holding → Bool
-gives number count (Count k) = eqb number 0 && eqb k count
-gives number count (Refused r) = eqb number (refusal_number r)
+unfoldable pub gives : ℕ → ℕ → Result ℕ Refusal → Bool
+gives number count (Ok k) = eqb number 0 && eqb k count
+gives number count (Err r) = eqb number (refusal_number r)
 
 unfoldable pub writes : HoldingCase → Bool
 writes c = gives c.number c.count (holding_answer c.table c.list 5) && same_code (holding_buffer c.table c.list (replicate 5 9)) c.after

@@ -15,3 +15,4 @@ pub mod PriceRight
 pub mod Right
 pub mod UnderCap
 pub mod Lowest
+pub mod StepEnds

@@ -2,26 +2,26 @@
 ghost use Rattle.std.specs.Prelude.{◌≡◌};
 ghost use Rattle.search.specs.Finds.{beats};
 
-// The price of the cheapest find. Its list stands in a buffer of the search's own: the lent one is written once the search has ended.
+// All of it was tried: the price of the cheapest find, if there is one, and the choices made by then. The find's list stands in a buffer of the search's
+// own: the lent one is written once the search has ended.
 #[derive(Clone, Copy)]
-pub enum Best {
-    Unfound,
-    Cheapest(u32),
+pub struct Passed {
+    pub best: Option<u32>,
+    pub made: u64,
 }
 
-// All of it was tried, with the cheapest find and the choices made by then; or the cap was reached.
+// The cap was reached, after so many choices.
 #[derive(Clone, Copy)]
-pub enum Walked {
-    Passed(Best, u64),
-    Cut(u64),
+pub struct Cut {
+    pub made: u64,
 }
 
 // Whether steps of this price may still lead to a cheaper find.
-pub fn undercuts(price: u32, best: Best) -> bool
+pub fn undercuts(price: u32, best: Option<u32>) -> bool
     ensures { result ≡ beats price best }
 {
     match best {
-        Best::Unfound => true,
-        Best::Cheapest(least) => price < least,
+        None => true,
+        Some(least) => price < least,
     }
 }

@@ -8,22 +8,16 @@ pub struct Choices {
     pub cap: u64,
 }
 
-#[derive(Clone, Copy)]
-pub enum Choice {
-    Next(Choices),
-    AtCap,
-}
-
 impl Choices {
-    // The count with one more, refused at the cap.
-    pub fn step(self) -> Choice
+    // The count with one more; none at the cap.
+    pub fn step(self) -> Option<Choices>
         requires { self.made ≤ self.cap }
         ensures { result ≡ counted self }
     {
         if self.made == self.cap {
-            return Choice::AtCap;
+            return None;
         }
-        Choice::Next(Choices {
+        Some(Choices {
             made: self.made + 1,
             cap: self.cap,
         })

@@ -7,8 +7,8 @@ mod ending;
 mod outcome;
 mod step_rows;
 
-pub use best::{Best, Walked, undercuts};
-pub use choices::{Choice, Choices};
+pub use best::{Cut, Passed, undercuts};
+pub use choices::Choices;
 pub use ending::finish;
 pub use outcome::Outcome;
 pub use step_rows::{changed_by, lowest_unsettled, struck_price, with_step, write_list};

@@ -5,4 +5,3 @@ pub mod FieldExact
 pub mod Lines
 pub mod Whole
 pub mod Times
-pub mod Blocks

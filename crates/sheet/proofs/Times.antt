@@ -5,7 +5,7 @@ use mathlib.Core.List.{List, [], ◌∷◌}
 use mathlib.Core.Option.{Option, none, some}
 use native.Mathlib.Omega.{arith}
 use Rattle.sheet.specs.Parse.{Parsed, Parser, got, broken, after, ◌>>=◌, return, times}
-use Rattle.sheet.specs.Place.{values_from, values}
+use Rattle.sheet.specs.Reading.{values_from, values}
 
 -- the text behind what was read
 abbrev pub behind : {A : Type 0} → Parsed A → Option (List ℕ)

@@ -1,10 +1,13 @@
 -- The whole sheet: a text parses to values exactly when it is the rendering of these values and they are in their ranges.
 use Prim.Native.Nat.{ℕ}
 use mathlib.Core.Path.{◌≡◌, refl, sym, ap, ◌∙◌}
+use mathlib.Core.Bool.{true, false}
 use mathlib.Core.Logic.{◌↔◌}
 use mathlib.Core.List.{List, [], ◌∷◌, ◌++◌, append_assoc, append-nil}
 use mathlib.Core.Option.{none, some}
 use native.Mathlib.Omega.{arith}
+use borrow.Author.Tests.{eqb-true}
+use Rattle.std.proofs.Common.{◌==◌}
 use lib.ListN.{length}
 use Rattle.sheet.specs.Form.{Sheet, InRange, CountsInRange, StateInRange, StepInRange, NodeInRange, Every, IsSheet, counts_names, states_names, steps_names, nodes_names, counts_line, state_line, step_line, node_line, bytes_of, render}
 use Rattle.sheet.specs.Parse.{Parsed, Parser, got, broken, ◌>>◌, exactly, counts_parser, state_parser, step_parser, node_parser, times, counts_block, states_block, steps_block, nodes_block, sheet_parser, whole, parse}
@@ -105,3 +108,12 @@ render_injective v w h k e =
 -- a text is of sheet form exactly when it parses
 pub sheet_parses : (text : List ℕ) → IsSheet text ↔ ((v : Sheet) × (parse text ≡ some v))
 sheet_parses text = (λ s. (s.0, (parse_exact text s.0).1 (s.1, s.2)), λ p. (let q = (parse_exact text p.0).0 p.1 in (p.0, q.0, q.1)))
+
+-- what is read up to the end of the text is the whole, and what is read with more behind it is not
+pub whole_read : (v : Sheet) (rest : List ℕ) → (length rest == 0) ≡ true → whole (got v rest) ≡ some v
+whole_read v [] e = refl
+whole_read v (b ∷ rest) e = absurd (let none_left : length (b ∷ rest) ≡ 0 = eqb-true _ 0 e in omega arith)
+
+pub not_whole : (v : Sheet) (rest : List ℕ) → (length rest == 0) ≡ false → whole (got v rest) ≡ none
+not_whole v [] e = absurd cc
+not_whole v (b ∷ rest) e = refl

@@ -1,3 +1,3 @@
 pub mod Form
 pub mod Parse
-pub mod Place
+pub mod Reading

@@ -100,26 +100,26 @@ times (suc count) p = do
   xs ← times count p
   return (x ∷ xs)
 
--- a block: its line of names, then its lines of values
+-- a block: its line of names, then so many lines of values
+abbrev pub block : {A : Type 0} → List ℕ → ℕ → Parser A → Parser (List A)
+block names count p = do
+  exactly names
+  times count p
+
+-- the four blocks; that of the counts has one line
 abbrev pub counts_block : Parser Counts
 counts_block = do
   exactly counts_names
   counts_parser
 
 abbrev pub states_block : ℕ → Parser (List State)
-states_block count = do
-  exactly states_names
-  times count state_parser
+states_block count = block states_names count state_parser
 
 abbrev pub steps_block : ℕ → Parser (List Step)
-steps_block count = do
-  exactly steps_names
-  times count step_parser
+steps_block count = block steps_names count step_parser
 
 abbrev pub nodes_block : ℕ → Parser (List Node)
-nodes_block count = do
-  exactly nodes_names
-  times count node_parser
+nodes_block count = block nodes_names count node_parser
 
 -- the four blocks; the counts fix the lines of the others
 unfoldable pub sheet_parser : Parser Sheet

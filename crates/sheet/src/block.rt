@@ -1,54 +1,39 @@
-// The four blocks, each a line of names and then lines of values. The names are fixed bytes.
-ghost use Rattle.std.specs.Prelude.{◌≡◌, drop};
-ghost use Rattle.sheet.specs.Parse.{counts_block, states_block, steps_block, nodes_block, state_parser, step_parser, node_parser};
-ghost use Rattle.sheet.specs.Place.{counts_read, block_read};
+// A block: a line of names, and then lines of values. The names are fixed bytes.
+ghost use Rattle.std.specs.Prelude.{◌≡◌};
+ghost use Rattle.sheet.specs.Parse.{block as block_of, counts_block, times};
+ghost use Rattle.sheet.specs.Reading.{reading, passing, block_reading, values};
 
-use crate::line::{CountsLine, read_counts};
-use crate::names::{COUNTS_NAMES, NODES_NAMES, STATES_NAMES, STEPS_NAMES, skip_names};
-use crate::place::{Block, Place};
-use crate::skip::{skip_nodes, skip_states, skip_steps};
+use crate::line::Line;
+use crate::names::{COUNTS_NAMES, skip_names};
+use table::Counts;
 
-pub fn counts_block(text: &[u8]) -> CountsLine
-    ensures { counts_read text.now result ≡ counts_block text.now }
+pub fn counts_block(text: &[u8]) -> Option<(Counts, &[u8])>
+    ensures { reading result ≡ counts_block text.now }
 {
-    let Place::At(first) = skip_names(text, 0, &COUNTS_NAMES) else {
-        return CountsLine::Broken;
-    };
-    read_counts(text, first)
+    Counts::read(skip_names(text, &COUNTS_NAMES)?)
 }
 
-pub fn states_block(text: &[u8], at: usize, count: usize) -> Block
-    ensures { block_read text.now count state_parser result ≡ states_block count (drop at text.now) }
+// The lines of a block passed over, so many as its count says: their form is tested, and their values are left.
+fn skip<L: Line>(text: &[u8], count: usize) -> Option<&[u8]>
+    ensures { passing (values count L.parser text.now) result ≡ times count L.parser text.now }
 {
-    let Place::At(first) = skip_names(text, at, &STATES_NAMES) else {
-        return Block::Broken;
-    };
-    let Place::At(next) = skip_states(text, first, count) else {
-        return Block::Broken;
-    };
-    Block::Lines(first, next)
+    let mut rest = text;
+    for _ in 0..count {
+        let (_, behind) = L::read(rest)?;
+        rest = behind;
+    }
+    Some(rest)
 }
 
-pub fn steps_block(text: &[u8], at: usize, count: usize) -> Block
-    ensures { block_read text.now count step_parser result ≡ steps_block count (drop at text.now) }
+// The lines of the block with these names, and the text behind them.
+pub fn block<'a, L: Line>(
+    text: &'a [u8],
+    names: &[u8],
+    count: usize,
+) -> Option<(&'a [u8], &'a [u8])>
+    ensures { block_reading count L.parser result ≡ block_of names.now count L.parser text.now }
 {
-    let Place::At(first) = skip_names(text, at, &STEPS_NAMES) else {
-        return Block::Broken;
-    };
-    let Place::At(next) = skip_steps(text, first, count) else {
-        return Block::Broken;
-    };
-    Block::Lines(first, next)
-}
-
-pub fn nodes_block(text: &[u8], at: usize, count: usize) -> Block
-    ensures { block_read text.now count node_parser result ≡ nodes_block count (drop at text.now) }
-{
-    let Place::At(first) = skip_names(text, at, &NODES_NAMES) else {
-        return Block::Broken;
-    };
-    let Place::At(next) = skip_nodes(text, first, count) else {
-        return Block::Broken;
-    };
-    Block::Lines(first, next)
+    let lines = skip_names(text, names)?;
+    let rest = skip::<L>(lines, count)?;
+    Some((lines, rest))
 }

@@ -1,37 +1,36 @@
 // Test 1: the form of the whole text, with the counts as written.
 ghost use Rattle.std.specs.Prelude.{◌≡◌};
 ghost use Rattle.sheet.specs.Parse.{parse};
-ghost use Rattle.sheet.specs.Place.{form_read};
+ghost use Rattle.sheet.specs.Reading.{form_reading};
 
-use crate::block::{counts_block, nodes_block, states_block, steps_block};
-use crate::line::CountsLine;
-use crate::place::Block;
-use table::Counts;
+use crate::block::{block, counts_block};
+use crate::names::{NODES_NAMES, STATES_NAMES, STEPS_NAMES};
+use table::{Counts, Node, State, Step};
 
-// The counts, and where the lines of the states, the steps and the nodes begin.
+// The counts, and the text from the first line of the states, of the steps and of the nodes on.
 #[derive(Clone, Copy)]
-pub enum Form {
-    Sheet(Counts, usize, usize, usize),
-    Broken,
+pub struct Form<'a> {
+    pub counts: Counts,
+    pub states: &'a [u8],
+    pub steps: &'a [u8],
+    pub nodes: &'a [u8],
 }
 
-pub fn check_form(text: &[u8]) -> Form
-    ensures { form_read text.now result ≡ parse text.now }
+#[tactic(auto, unfolding(crate::specs::Parse::sheet_parser, crate::specs::Parse::parse))]
+pub fn check_form(text: &[u8]) -> Option<Form<'_>>
+    ensures { form_reading result ≡ parse text.now }
 {
-    let CountsLine::Values(counts, second) = counts_block(text) else {
-        return Form::Broken;
-    };
-    let Block::Lines(states, third) = states_block(text, second, counts.states) else {
-        return Form::Broken;
-    };
-    let Block::Lines(steps, fourth) = steps_block(text, third, counts.steps) else {
-        return Form::Broken;
-    };
-    let Block::Lines(nodes, end) = nodes_block(text, fourth, counts.nodes) else {
-        return Form::Broken;
-    };
-    if end < text.len() {
-        return Form::Broken;
+    let (counts, rest) = counts_block(text)?;
+    let (states, rest) = block::<State>(rest, &STATES_NAMES, counts.states)?;
+    let (steps, rest) = block::<Step>(rest, &STEPS_NAMES, counts.steps)?;
+    let (nodes, rest) = block::<Node>(rest, &NODES_NAMES, counts.nodes)?;
+    if !rest.is_empty() {
+        return None;
     }
-    Form::Sheet(counts, states, steps, nodes)
+    Some(Form {
+        counts,
+        states,
+        steps,
+        nodes,
+    })
 }

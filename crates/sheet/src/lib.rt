@@ -6,10 +6,8 @@ mod field;
 mod form;
 mod line;
 mod names;
-mod place;
-mod skip;
 
 pub use field::{NEWLINE, SPACE, ZERO};
 pub use form::{Form, check_form};
-pub use line::{NodeLine, StateLine, StepLine, read_node, read_state, read_step};
+pub use line::Line;
 pub use names::{COUNTS_NAMES, NODES_NAMES, STATES_NAMES, STEPS_NAMES};

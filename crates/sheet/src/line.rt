@@ -1,99 +1,67 @@
-// The lines of values: each gives its record and the place behind it.
-ghost use Rattle.std.specs.Prelude.{◌≡◌, drop};
-ghost use Rattle.sheet.specs.Parse.{counts_parser, state_parser, step_parser, node_parser};
-ghost use Rattle.sheet.specs.Place.{counts_read, state_read, step_read, node_read};
+// The lines of values: each gives its record and the text behind it.
+ghost use Rattle.std.specs.Prelude.{◌≡◌};
+ghost use Rattle.sheet.specs.Parse.{Parser, counts_parser, state_parser, step_parser, node_parser};
+ghost use Rattle.sheet.specs.Reading.{reading};
 
-use crate::field::{Field, NEWLINE, SPACE, read_field};
+use crate::field::{NEWLINE, SPACE, read_field};
 use table::{Counts, Node, State, Step};
 
-#[derive(Clone, Copy)]
-pub enum CountsLine {
-    Values(Counts, usize),
-    Broken,
+// A record that a line of a sheet holds.
+pub trait Line: Copy {
+    ghost parser: { Parser Self };
+
+    fn read(text: &[u8]) -> Option<(Self, &[u8])>
+        ensures { reading result ≡ parser text.now };
 }
 
-#[derive(Clone, Copy)]
-pub enum StateLine {
-    Values(State, usize),
-    Broken,
+impl Line for Counts {
+    ghost parser = { counts_parser };
+
+    fn read(text: &[u8]) -> Option<(Counts, &[u8])> {
+        let (states, rest) = read_field(text, 255, SPACE)?;
+        let (steps, rest) = read_field(rest, 255, SPACE)?;
+        let (nodes, rest) = read_field(rest, 255, SPACE)?;
+        let (props, rest) = read_field(rest, 255, NEWLINE)?;
+        Some((
+            Counts {
+                states,
+                steps,
+                nodes,
+                props,
+            },
+            rest,
+        ))
+    }
 }
 
-#[derive(Clone, Copy)]
-pub enum StepLine {
-    Values(Step, usize),
-    Broken,
+impl Line for State {
+    ghost parser = { state_parser };
+
+    fn read(text: &[u8]) -> Option<(State, &[u8])> {
+        let (initial, rest) = read_field(text, 255, SPACE)?;
+        let (label, rest) = read_field(rest, 65535, NEWLINE)?;
+        Some((State { initial, label }, rest))
+    }
 }
 
-#[derive(Clone, Copy)]
-pub enum NodeLine {
-    Values(Node, usize),
-    Broken,
+impl Line for Step {
+    ghost parser = { step_parser };
+
+    fn read(text: &[u8]) -> Option<(Step, &[u8])> {
+        let (from, rest) = read_field(text, 255, SPACE)?;
+        let (to, rest) = read_field(rest, 255, SPACE)?;
+        let (price, rest) = read_field(rest, 255, NEWLINE)?;
+        Some((Step { from, to, price }, rest))
+    }
 }
 
-pub fn read_state(text: &[u8], at: usize) -> StateLine
-    ensures { state_read text.now result ≡ state_parser (drop at text.now) }
-{
-    let Field::Value(initial, second) = read_field(text, at, 255, SPACE) else {
-        return StateLine::Broken;
-    };
-    let Field::Value(label, next) = read_field(text, second, 65535, NEWLINE) else {
-        return StateLine::Broken;
-    };
-    StateLine::Values(State { initial, label }, next)
-}
+impl Line for Node {
+    ghost parser = { node_parser };
 
-pub fn read_step(text: &[u8], at: usize) -> StepLine
-    ensures { step_read text.now result ≡ step_parser (drop at text.now) }
-{
-    let Field::Value(from, second) = read_field(text, at, 255, SPACE) else {
-        return StepLine::Broken;
-    };
-    let Field::Value(to, third) = read_field(text, second, 255, SPACE) else {
-        return StepLine::Broken;
-    };
-    let Field::Value(price, next) = read_field(text, third, 255, NEWLINE) else {
-        return StepLine::Broken;
-    };
-    StepLine::Values(Step { from, to, price }, next)
-}
-
-pub fn read_node(text: &[u8], at: usize) -> NodeLine
-    ensures { node_read text.now result ≡ node_parser (drop at text.now) }
-{
-    let Field::Value(kind, second) = read_field(text, at, 255, SPACE) else {
-        return NodeLine::Broken;
-    };
-    let Field::Value(a, third) = read_field(text, second, 255, SPACE) else {
-        return NodeLine::Broken;
-    };
-    let Field::Value(b, next) = read_field(text, third, 255, NEWLINE) else {
-        return NodeLine::Broken;
-    };
-    NodeLine::Values(Node { kind, a, b }, next)
-}
-
-pub fn read_counts(text: &[u8], at: usize) -> CountsLine
-    ensures { counts_read text.now result ≡ counts_parser (drop at text.now) }
-{
-    let Field::Value(states, second) = read_field(text, at, 255, SPACE) else {
-        return CountsLine::Broken;
-    };
-    let Field::Value(steps, third) = read_field(text, second, 255, SPACE) else {
-        return CountsLine::Broken;
-    };
-    let Field::Value(nodes, fourth) = read_field(text, third, 255, SPACE) else {
-        return CountsLine::Broken;
-    };
-    let Field::Value(props, next) = read_field(text, fourth, 255, NEWLINE) else {
-        return CountsLine::Broken;
-    };
-    CountsLine::Values(
-        Counts {
-            states,
-            steps,
-            nodes,
-            props,
-        },
-        next,
-    )
+    fn read(text: &[u8]) -> Option<(Node, &[u8])> {
+        let (kind, rest) = read_field(text, 255, SPACE)?;
+        let (a, rest) = read_field(rest, 255, SPACE)?;
+        let (b, rest) = read_field(rest, 255, NEWLINE)?;
+        Some((Node { kind, a, b }, rest))
+    }
 }

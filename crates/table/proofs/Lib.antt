@@ -10,5 +10,5 @@ pub mod Past
 pub mod Scan
 pub mod Rows
 pub mod TargetSets
-pub mod Accepted
+pub mod Facts
 pub mod ReadNode

@@ -10,10 +10,10 @@ use lib.ListN.{length, drop}
 use Rattle.table.specs.declared.shape.Shape.{Shape}
 use Rattle.table.specs.declared.shape.Shape.TheVariants.{Constant, Proposition, Unary, Binary, Unknown}
 use Rattle.table.specs.declared.record.Node.{Node}
-use Rattle.table.specs.declared.refusal.Verdict.TheVariants.{Accepted}
+use Rattle.std.specs.Prelude.{Ok}
 use Rattle.table.specs.Table.{table_of, nodes_part, node_at, node_of, node_width, counts_of}
 use Rattle.table.specs.Accept.{table_verdict, shape_of, fields_fit}
-use Rattle.table.proofs.Accepted.{accepted, node_read_lem}
+use Rattle.table.proofs.Facts.{accepted, node_read_lem}
 use Rattle.table.proofs.Bools.{and_parts}
 
 -- whatever its shape, a field is 0, a proposition or a lower node
@@ -37,7 +37,7 @@ pub record ReadNode (table : List ℕ) (i : ℕ) (x : Node) : Type 0 where
   pub a_below : x.a < 32
   pub b_below : x.b < 32
 
-pub read_node : (table : List ℕ) → table_verdict table ≡ Accepted → (i : ℕ) → i < (counts_of table).nodes
+pub read_node : (table : List ℕ) → table_verdict table ≡ Ok tt → (i : ℕ) → i < (counts_of table).nodes
     → (section : List ℕ) → section ≡ nodes_part table → (x : Node) → x ≡ node_of (drop (node_width * i) section) → ReadNode table i x
 read_node table ok i h section s x e =
     let p = accepted table ok in

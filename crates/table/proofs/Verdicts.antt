@@ -4,37 +4,37 @@ use mathlib.Core.Path.{◌≡◌, refl, sym}
 use mathlib.Core.Bool.{Bool, true, false, false≢true}
 use native.Mathlib.Omega.{arith}
 use Rattle.table.specs.declared.refusal.Refusal.{Refusal}
-use Rattle.table.specs.declared.refusal.Verdict.{Verdict}
-use Rattle.table.specs.declared.refusal.Verdict.TheVariants.{Accepted, Refused}
+use Rattle.table.specs.Verdict.{Verdict}
+use Rattle.std.specs.Prelude.{Ok, Err}
 use Rattle.table.specs.Verdict.{require, ◌then◌}
 
 -- a refusal is no acceptance
-pub refused : (r : Refusal) → Refused r ≡ Accepted → ⊥
+pub refused : (r : Refusal) → ◌≡◌ {A = Verdict} (Err r) (Ok tt) → ⊥
 refused r e = let z : ◌≡◌ {A = ℕ} 0 1 = cc in omega arith
 
 -- both of two verdicts accept when the first and then the second does, and back
-pub then_accepted : (v w : Verdict) → v then w ≡ Accepted → (v ≡ Accepted) × (w ≡ Accepted)
-then_accepted Accepted w e = (refl, e)
-then_accepted (Refused r) w e = absurd (refused r e)
+pub then_accepted : (v w : Verdict) → v then w ≡ Ok tt → (v ≡ Ok tt) × (w ≡ Ok tt)
+then_accepted (Ok tt) w e = (refl, e)
+then_accepted (Err r) w e = absurd (refused r e)
 
-pub accepted_then : (v w : Verdict) → v ≡ Accepted → w ≡ Accepted → v then w ≡ Accepted
-accepted_then Accepted w p q = q
-accepted_then (Refused r) w p q = p
+pub accepted_then : (v w : Verdict) → v ≡ Ok tt → w ≡ Ok tt → v then w ≡ Ok tt
+accepted_then (Ok tt) w p q = q
+accepted_then (Err r) w p q = p
 
 -- a required test holds when the verdict on it accepts, and back
-pub require_accepted : (r : Refusal) (b : Bool) → require r b ≡ Accepted → b ≡ true
+pub require_accepted : (r : Refusal) (b : Bool) → require r b ≡ Ok tt → b ≡ true
 require_accepted r true e = refl
 require_accepted r false e = absurd (refused r e)
 
-pub accepted_require : (r : Refusal) (b : Bool) → b ≡ true → require r b ≡ Accepted
+pub accepted_require : (r : Refusal) (b : Bool) → b ≡ true → require r b ≡ Ok tt
 accepted_require r true e = refl
 accepted_require r false e = absurd (false≢true e)
 
 -- a refusal stands, and an acceptance leaves the verdict to the next test
-pub then_refused : (v w : Verdict) (r : Refusal) → v ≡ Refused r → v then w ≡ v
-then_refused Accepted w r e = absurd (refused r (sym e))
-then_refused (Refused q) w r e = refl
+pub then_refused : (v w : Verdict) (r : Refusal) → v ≡ Err r → v then w ≡ v
+then_refused (Ok tt) w r e = absurd (refused r (sym e))
+then_refused (Err q) w r e = refl
 
-pub then_next : (v w : Verdict) → v ≡ Accepted → v then w ≡ w
-then_next Accepted w e = refl
-then_next (Refused q) w e = absurd (refused q e)
+pub then_next : (v w : Verdict) → v ≡ Ok tt → v then w ≡ w
+then_next (Ok tt) w e = refl
+then_next (Err q) w e = absurd (refused q e)

@@ -1,12 +1,12 @@
 -- What a buffer that a caller hands over holds after a call.
 use Rattle.std.specs.Prelude.{ℕ, ◌≤◌, ◌<◌, ◌≡◌, List, ◌++◌, length, get_or, take, drop}
-use Rattle.table.specs.declared.refusal.Verdict.{Verdict}
-use Rattle.table.specs.declared.refusal.Verdict.TheVariants.{Accepted, Refused}
+use Rattle.table.specs.Verdict.{Verdict}
+use Rattle.std.specs.Prelude.{Ok, Err}
 
 -- what was written where the verdict accepts, else what it held
 abbrev pub on_accepted : {A : Type 0} → Verdict → A → A → A
-on_accepted Accepted written before = written
-on_accepted (Refused r) written before = before
+on_accepted (Ok tt) written before = written
+on_accepted (Err r) written before = before
 
 -- so many of the values first, and the rest of the buffer as it was
 abbrev pub over : {A : Type 0} → ℕ → List A → List A → List A

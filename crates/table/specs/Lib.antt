@@ -2,7 +2,8 @@ pub mod Verdict
 pub mod Buffer
 pub mod Table
 pub mod Accept
-pub mod Family
+pub mod Second
+pub mod Operator
 pub mod Facts
 pub mod Rows
 pub mod StateSets

@@ -5,18 +5,25 @@ use Rattle.table.specs.declared.record.State.{State}
 use Rattle.table.specs.declared.record.Step.{Step}
 use Rattle.table.specs.declared.record.Node.{Node}
 
--- bytes of the header and of a record of each section
+-- bytes of the header, and of a record of any section
 abbrev pub header_width : ℕ
 header_width = 4
 
+abbrev pub record_width : ℕ
+record_width = 3
+
 abbrev pub state_width : ℕ
-state_width = 3
+state_width = record_width
 
 abbrev pub step_width : ℕ
-step_width = 3
+step_width = record_width
 
 abbrev pub node_width : ℕ
-node_width = 3
+node_width = record_width
+
+-- the first three bytes
+abbrev pub three : List ℕ → List ℕ
+three bytes = get_or bytes 0 0 ∷ get_or bytes 1 0 ∷ get_or bytes 2 0 ∷ []
 
 -- four bytes n, e, f, p
 abbrev pub counts_of : List ℕ → Counts

@@ -1,9 +1,11 @@
 -- 01, "Numbers given": the number of each refusal, and how tests are made one after the other.
-use Rattle.std.specs.Prelude.{ℕ, Bool, true, false}
+use Rattle.std.specs.Prelude.{ℕ, Bool, true, false, Result, Ok, Err}
 use Rattle.table.specs.declared.refusal.Refusal.{Refusal}
 use Rattle.table.specs.declared.refusal.Refusal.TheVariants.{SheetForm, Length, Counts, StateRecord, NoInitial, StepEnd, RepeatedStep, NodeRecord, ListForm, ShortBuffer, NotTotal, NoInitialKept, RootFails, UnreachedStep}
-use Rattle.table.specs.declared.refusal.Verdict.{Verdict}
-use Rattle.table.specs.declared.refusal.Verdict.TheVariants.{Accepted, Refused}
+
+-- the answer of a test: accepted, or refused and why
+abbrev pub Verdict : Type 0
+Verdict = Result (Unit {0}) Refusal
 
 abbrev pub refusal_number : Refusal → ℕ
 refusal_number SheetForm = 1
@@ -22,16 +24,16 @@ refusal_number RootFails = 13
 refusal_number UnreachedStep = 16
 
 abbrev pub verdict_number : Verdict → ℕ
-verdict_number Accepted = 0
-verdict_number (Refused r) = refusal_number r
+verdict_number (Ok tt) = 0
+verdict_number (Err r) = refusal_number r
 
 -- refused, for this reason, unless the test holds
 abbrev pub require : Refusal → Bool → Verdict
-require r true = Accepted
-require r false = Refused r
+require r true = (Ok tt)
+require r false = Err r
 
 infixr 20 ◌then◌
 -- the first verdict that refuses, the left one tried first
 abbrev pub ◌then◌ : Verdict → Verdict → Verdict
-Accepted then w = w
-(Refused r) then w = Refused r
+(Ok tt) then w = w
+(Err r) then w = Err r

@@ -3,7 +3,7 @@ ghost use Rattle.std.specs.Prelude.{◌≡◌, ◌<◌};
 ghost use Rattle.table.specs.Table.{counts_of, packed_length};
 
 use crate::part::byte_at;
-use crate::width::{HEADER_WIDTH, NODE_WIDTH, STATE_WIDTH, STEP_WIDTH};
+use crate::width::{HEADER_WIDTH, RECORD_WIDTH};
 
 #[derive(Clone, Copy)]
 pub struct Counts {
@@ -17,10 +17,10 @@ pub fn counts_of(table: &[u8]) -> Counts
     ensures { result ≡ counts_of table.now }
 {
     Counts {
-        states: byte_at(table, 0),
-        steps: byte_at(table, 1),
-        nodes: byte_at(table, 2),
-        props: byte_at(table, 3),
+        states: byte_at(table, 0) as usize,
+        steps: byte_at(table, 1) as usize,
+        nodes: byte_at(table, 2) as usize,
+        props: byte_at(table, 3) as usize,
     }
 }
 
@@ -29,5 +29,5 @@ pub fn packed_length(c: Counts) -> usize
     requires { (c.states < 256) × ((c.steps < 256) × (c.nodes < 256)) }
     ensures { result ≡ packed_length c }
 {
-    HEADER_WIDTH + STATE_WIDTH * c.states + STEP_WIDTH * c.steps + NODE_WIDTH * c.nodes
+    HEADER_WIDTH + RECORD_WIDTH * c.states + RECORD_WIDTH * c.steps + RECORD_WIDTH * c.nodes
 }

@@ -1,8 +1,9 @@
 // The packed table: its counts, sections and records, and the numbers of the refusals. Knows nothing of what a formula means.
 #![tactic(auto)]
 
+mod accepted;
 mod counts;
-mod family;
+mod operator;
 mod part;
 mod record;
 mod refusal;
@@ -12,12 +13,13 @@ mod state_sets;
 mod targets;
 mod width;
 
+pub use accepted::Accepted;
 pub use counts::{Counts, counts_of, packed_length};
-pub use family::{Family, family_of, second_child};
-pub use record::{Node, State, Step, node_at, state_at, step_at};
-pub use refusal::{Refusal, Verdict, refusal_number, verdict_number};
-pub use section::{nodes_part, states_part, steps_part};
+pub use operator::{Family, Operator, Quantifier, second_child};
+pub use record::{Node, State, Step, record_at};
+pub use refusal::{Refusal, verdict_number};
+pub use section::{Sections, sections_of};
 pub use shape::{Shape, shape_of};
 pub use state_sets::{initial_states, labelled_states};
 pub use targets::target_sets;
-pub use width::{HEADER_WIDTH, NODE_WIDTH, STATE_WIDTH, STEP_WIDTH};
+pub use width::{HEADER_WIDTH, RECORD_WIDTH};

@@ -1,14 +1,10 @@
 // Reading bytes and parts of a slice at any place: past the end there is nothing, and a byte there reads as 0.
 ghost use Rattle.std.specs.Prelude.{◌≡◌, get_or, take, drop};
 
-pub fn byte_at(bytes: &[u8], at: usize) -> usize
+pub fn byte_at(bytes: &[u8], at: usize) -> u8
     ensures { result ≡ get_or bytes.now at 0 }
 {
-    if at < bytes.len() {
-        bytes[at] as usize
-    } else {
-        0
-    }
+    if at < bytes.len() { bytes[at] } else { 0 }
 }
 
 // The bytes from start on, as many as size, or as many as there are.

@@ -1,10 +1,9 @@
-// The records of the three sections. Access is total: past the section's end a record is all zeros.
-// A record that the section has whole is read after one test; one that the end cuts is rare, and is read byte by byte.
+// The records of the three sections, three bytes each. Access is total: past the section's end a record is all zeros.
 ghost use Rattle.std.specs.Prelude.{◌≡◌, ◌*◌, drop};
-ghost use Rattle.table.specs.Table.{state_width, step_width, node_width, state_of, step_of, node_of};
+ghost use Rattle.table.specs.Table.{record_width, three, state_of, step_of, node_of};
 
 use crate::part::byte_at;
-use crate::width::{NODE_WIDTH, STATE_WIDTH, STEP_WIDTH};
+use crate::width::RECORD_WIDTH;
 
 #[derive(Clone, Copy)]
 pub struct State {
@@ -26,102 +25,69 @@ pub struct Node {
     pub b: usize,
 }
 
-// A state that the end of the section cuts, or past it.
-fn cut_state(section: &[u8], i: usize) -> State
-    ensures { result ≡ state_of (drop (state_width * i) section.now) }
-{
-    if section.len() / STATE_WIDTH < i {
-        return State {
-            initial: 0,
-            label: 0,
-        };
-    }
-    let at = STATE_WIDTH * i;
-    let low = byte_at(section, at + 1);
-    let high = byte_at(section, at + 2);
-    State {
-        initial: byte_at(section, at),
-        label: low + 256 * high,
+impl From<[u8; 3]> for State {
+    ghost from_gives = { λ bytes x. x ≡ state_of bytes };
+
+    fn from(bytes: [u8; 3]) -> State {
+        State {
+            initial: bytes[0] as usize,
+            label: bytes[1] as usize + 256 * bytes[2] as usize,
+        }
     }
 }
 
-pub fn state_at(section: &[u8], i: usize) -> State
-    ensures { result ≡ state_of (drop (state_width * i) section.now) }
-{
-    if section.len() / STATE_WIDTH <= i {
-        return cut_state(section, i);
-    }
-    let at = STATE_WIDTH * i;
-    let low = section[at + 1] as usize;
-    let high = section[at + 2] as usize;
-    State {
-        initial: section[at] as usize,
-        label: low + 256 * high,
+impl From<[u8; 3]> for Step {
+    ghost from_gives = { λ bytes x. x ≡ step_of bytes };
+
+    fn from(bytes: [u8; 3]) -> Step {
+        Step {
+            from: bytes[0] as usize,
+            to: bytes[1] as usize,
+            price: bytes[2] as usize,
+        }
     }
 }
 
-// A step that the end cuts, or past it.
-fn cut_step(section: &[u8], i: usize) -> Step
-    ensures { result ≡ step_of (drop (step_width * i) section.now) }
-{
-    if section.len() / STEP_WIDTH < i {
-        return Step {
-            from: 0,
-            to: 0,
-            price: 0,
-        };
-    }
-    let at = STEP_WIDTH * i;
-    Step {
-        from: byte_at(section, at),
-        to: byte_at(section, at + 1),
-        price: byte_at(section, at + 2),
+impl From<[u8; 3]> for Node {
+    ghost from_gives = { λ bytes x. x ≡ node_of bytes };
+
+    fn from(bytes: [u8; 3]) -> Node {
+        Node {
+            kind: bytes[0] as usize,
+            a: bytes[1] as usize,
+            b: bytes[2] as usize,
+        }
     }
 }
 
-pub fn step_at(section: &[u8], i: usize) -> Step
-    ensures { result ≡ step_of (drop (step_width * i) section.now) }
+// The bytes of a record that the end of the section cuts, or past it: rare, so they are read one by one.
+fn cut_bytes(section: &[u8], i: usize) -> [u8; 3]
+    ensures { result ≡ three (drop (record_width * i) section.now) }
 {
-    if section.len() / STEP_WIDTH <= i {
-        return cut_step(section, i);
+    if section.len() / RECORD_WIDTH < i {
+        return [0; 3];
     }
-    let at = STEP_WIDTH * i;
-    Step {
-        from: section[at] as usize,
-        to: section[at + 1] as usize,
-        price: section[at + 2] as usize,
-    }
+    let at = RECORD_WIDTH * i;
+    [
+        byte_at(section, at),
+        byte_at(section, at + 1),
+        byte_at(section, at + 2),
+    ]
 }
 
-// A node that the end cuts, or past it.
-fn cut_node(section: &[u8], i: usize) -> Node
-    ensures { result ≡ node_of (drop (node_width * i) section.now) }
+// The bytes of record i. One that the section has whole is read after one test.
+fn bytes_at(section: &[u8], i: usize) -> [u8; 3]
+    ensures { result ≡ three (drop (record_width * i) section.now) }
 {
-    if section.len() / NODE_WIDTH < i {
-        return Node {
-            kind: 0,
-            a: 0,
-            b: 0,
-        };
+    if section.len() / RECORD_WIDTH <= i {
+        return cut_bytes(section, i);
     }
-    let at = NODE_WIDTH * i;
-    Node {
-        kind: byte_at(section, at),
-        a: byte_at(section, at + 1),
-        b: byte_at(section, at + 2),
-    }
+    let at = RECORD_WIDTH * i;
+    [section[at], section[at + 1], section[at + 2]]
 }
 
-pub fn node_at(section: &[u8], i: usize) -> Node
-    ensures { result ≡ node_of (drop (node_width * i) section.now) }
+pub fn record_at<R: From<[u8; 3]>>(section: &[u8], i: usize) -> R
+    ensures { R.from_gives (three (drop (record_width * i) section.now)) result }
 {
-    if section.len() / NODE_WIDTH <= i {
-        return cut_node(section, i);
-    }
-    let at = NODE_WIDTH * i;
-    Node {
-        kind: section[at] as usize,
-        a: section[at + 1] as usize,
-        b: section[at + 2] as usize,
-    }
+    R::from(bytes_at(section, i))
 }

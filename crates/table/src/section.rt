@@ -4,33 +4,27 @@ ghost use Rattle.table.specs.Table.{states_part, steps_part, nodes_part};
 
 use crate::counts::counts_of;
 use crate::part::part_of;
-use crate::width::{HEADER_WIDTH, NODE_WIDTH, STATE_WIDTH, STEP_WIDTH};
+use crate::width::{HEADER_WIDTH, RECORD_WIDTH};
 
-pub fn states_part(table: &[u8]) -> &[u8]
-    ensures { result.now ≡ states_part table.now }
-{
-    let c = counts_of(table);
-    part_of(table, HEADER_WIDTH, STATE_WIDTH * c.states)
+#[derive(Clone, Copy)]
+pub struct Sections<'a> {
+    pub states: &'a [u8],
+    pub steps: &'a [u8],
+    pub nodes: &'a [u8],
 }
 
-pub fn steps_part(table: &[u8]) -> &[u8]
-    ensures { result.now ≡ steps_part table.now }
+// Of any bytes: what is missing is left out.
+pub fn sections_of(table: &[u8]) -> Sections<'_>
+    ensures states { result.states.now ≡ states_part table.now }
+    ensures steps { result.steps.now ≡ steps_part table.now }
+    ensures nodes { result.nodes.now ≡ nodes_part table.now }
 {
     let c = counts_of(table);
-    part_of(
-        table,
-        HEADER_WIDTH + STATE_WIDTH * c.states,
-        STEP_WIDTH * c.steps,
-    )
-}
-
-pub fn nodes_part(table: &[u8]) -> &[u8]
-    ensures { result.now ≡ nodes_part table.now }
-{
-    let c = counts_of(table);
-    part_of(
-        table,
-        HEADER_WIDTH + STATE_WIDTH * c.states + STEP_WIDTH * c.steps,
-        NODE_WIDTH * c.nodes,
-    )
+    let steps = HEADER_WIDTH + RECORD_WIDTH * c.states;
+    let nodes = steps + RECORD_WIDTH * c.steps;
+    Sections {
+        states: part_of(table, HEADER_WIDTH, RECORD_WIDTH * c.states),
+        steps: part_of(table, steps, RECORD_WIDTH * c.steps),
+        nodes: part_of(table, nodes, RECORD_WIDTH * c.nodes),
+    }
 }

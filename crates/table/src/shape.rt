@@ -12,6 +12,7 @@ pub enum Shape {
     Unknown,
 }
 
+// A kind is a number of the table until this has found it to be one of those that are known.
 pub fn shape_of(kind: usize) -> Shape
     ensures { result ≡ shape_of kind }
 {

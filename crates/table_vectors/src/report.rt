@@ -14,17 +14,11 @@ fn print_number(rt: &impl Print, number: usize, c: Count) -> io::Result<()> {
     Ok(())
 }
 
-fn print_numbers(rt: &impl Print, counts: [Count; 16]) -> io::Result<()> {
-    for number in 0..16 {
-        print_number(rt, number, counts[number])?;
-    }
-    Ok(())
-}
-
-pub fn print_tally(rt: &impl Print, t: Tally) -> io::Result<()> {
+pub fn print_tally(rt: &impl Print, t: &Tally) -> io::Result<()> {
     println!(rt; "refusal vectors agreed")?;
-    let counts = t.by_number;
-    print_numbers(rt, counts)?;
+    for (number, count) in t.by_number.iter().enumerate() {
+        print_number(rt, number, *count)?;
+    }
     print!(rt; "all")?;
     print_count(rt, t.all)?;
     print!(rt; "variables")?;

@@ -7,16 +7,13 @@ use Rattle.table.specs.Table.{Table}
 use Rattle.ctl.proofs.Tabulate.{length_tabulate}
 use Rattle.closure.specs.Closure.{settled_below}
 use Rattle.propagate.specs.Memory.{Memory}
-use Rattle.search.specs.declared.best.Best.{Best as Held}
-use Rattle.search.specs.declared.best.Best.TheVariants.{Unfound}
-use Rattle.search.specs.declared.best.Walked.{Walked as Finished}
-use Rattle.search.specs.declared.best.Walked.TheVariants.{Passed}
+use Rattle.std.specs.Prelude.{Ok}
 use Rattle.walk.specs.declared.reach.Reached.{Reached}
 use Rattle.walk.specs.declared.reach.Reached.TheVariants.{Ended, Unsettled}
 use Rattle.search.specs.Search.{unfound, search, answer_of}
 use Rattle.search.specs.TableSearch.{table_search, search_under}
 use Rattle.search.specs.Answer.{outcome_of, list_after}
-use Rattle.search.specs.Finds.{finished, written, Gives}
+use Rattle.search.specs.Finds.{Held, Unfound, Finished, finished, written, Gives}
 use Rattle.search.specs.Fine.{closure_of}
 use Rattle.walk.specs.Stands.{StandsAt, GoesOn, Resting, Somewhere, GivesFrom, Comes, walk_from, search_from}
 use Rattle.walk.proofs.Giving.{gives_same, gives-answer, gives_list}
@@ -44,11 +41,11 @@ module _ (T : Table) (cap : ℕ) where
 
   module _ (M : Memory) (bytes : List ℕ) (reached : Reached) (comes : Comes T Unfound M bytes [] unfound reached) where
     -- an end was reached
-    pub start_ended : (after : Held) → reached ≡ Ended after → Gives T (search_from T cap 0 [] unfound 0) bytes (Passed after 0)
+    pub start_ended : (after : Held) → reached ≡ Ended after → Gives T (search_from T cap 0 [] unfound 0) bytes (Ok (record { best = after; made = 0 }))
     start_ended after told = go (subst (Comes T Unfound M bytes [] unfound) told comes)
       where
-        go : Comes T Unfound M bytes [] unfound (Ended after) → Gives T (search_from T cap 0 [] unfound 0) bytes (Passed after 0)
-        go (b', stores, same) = gives_same T bytes (Passed after 0) (same cap 0 0 (omega arith)) (stores, refl)
+        go : Comes T Unfound M bytes [] unfound (Ended after) → Gives T (search_from T cap 0 [] unfound 0) bytes (Ok (record { best = after; made = 0 }))
+        go (b', stores, same) = gives_same T bytes (Ok (record { best = after; made = 0 })) (same cap 0 0 (omega arith)) (stores, refl)
 
     -- or a step that is unsettled
     module _ (k : ℕ) (told : reached ≡ Unsettled k) where

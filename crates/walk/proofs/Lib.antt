@@ -12,5 +12,5 @@ pub mod Reached
 pub mod ChoiceCount
 pub mod Giving
 pub mod TryLaws
-pub mod Handing
 pub mod FromStart
+pub mod Netted

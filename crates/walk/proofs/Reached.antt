@@ -14,17 +14,15 @@ use Rattle.table.specs.Table.{Table}
 use Rattle.table.specs.Facts.{Wellformed}
 use Rattle.ctl.proofs.Tabulate.{length_tabulate}
 use Rattle.circuit.specs.Logic.{Literal}
-use Rattle.closure.specs.declared.answer.Closure.{Closure}
 use Rattle.closure.specs.Closure.{Marks, mark_at, is_known, known, marked}
 use Rattle.propagate.specs.Memory.{Memory}
-use Rattle.closure.specs.Closes.{step_known, Closes}
-use Rattle.search.specs.declared.best.Best.{Best as Held}
-use Rattle.search.specs.declared.best.Best.TheVariants.{Cheapest}
+use Rattle.std.specs.Prelude.{Option}
+use Rattle.closure.specs.Closes.{step_known, is_failed, Closes}
 use Rattle.walk.specs.declared.reach.Reached.TheVariants.{Ended, Unsettled}
 use Rattle.search.specs.Search.{Best, find, undercuts}
 use Rattle.search.specs.TableSearch.{mark_price}
 use Rattle.search.specs.StepRows.{is_unsettled, rows_price, kept_bytes}
-use Rattle.search.specs.Finds.{beats, Stores}
+use Rattle.search.specs.Finds.{Held, Cheapest, beats, Stores}
 use Rattle.search.specs.Fine.{Fine, closure_of, step_literals}
 use Rattle.walk.specs.Stands.{Resting, Comes}
 use Rattle.walk.proofs.Closing.{closed_clash, closed_marked, closed_exact}
@@ -33,12 +31,12 @@ use Rattle.walk.proofs.Giving.{stored-beats}
 use Rattle.walk.proofs.WalkOn.{walk_settled, search_clash, search_dear, search_marked}
 
 module _ (T : Table) (wf : Wellformed T) (P : List (Literal ℕ)) (fine : Fine (length T.steps) P)
-    (c : Closure) (M : Memory) (closes : Closes T (step_literals P) c M) (rest : c.fails ≡ false → Resting T M) (best : Held) (bytes : List ℕ) (b : Best) (stores : Stores T b best bytes) where
+    (c : Option ℕ) (M : Memory) (closes : Closes T (step_literals P) c M) (rest : is_failed c ≡ false → Resting T M) (best : Held) (bytes : List ℕ) (b : Best) (stores : Stores T b best bytes) where
   -- it fails
-  pub comes_failed : c.fails ≡ true → Comes T best M bytes P b (Ended best)
+  pub comes_failed : is_failed c ≡ true → Comes T best M bytes P b (Ended best)
   comes_failed e = (b, stores, λ cap j made h. search_clash T cap j P b made ((closed_clash T wf P fine c M closes).0 e))
 
-  module _ (e : c.fails ≡ false) where
+  module _ (e : is_failed c ≡ false) where
     m : Marks
     m = (closed_marked T wf P fine c M closes e).0
 

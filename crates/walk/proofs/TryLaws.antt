@@ -18,16 +18,15 @@ use Rattle.closure.specs.Numbered.{numbered_clauses}
 use Rattle.closure.proofs.Grow.{closure_keeps}
 use Rattle.closure.proofs.Places.{numbered_inside}
 use Rattle.search.specs.declared.choices.Choices.{Choices}
-use Rattle.search.specs.declared.choices.Choice.TheVariants.{Next, AtCap}
-use Rattle.search.specs.declared.best.Best.{Best as Held}
-use Rattle.search.specs.declared.best.Walked.{Walked as Finished}
-use Rattle.search.specs.declared.best.Walked.TheVariants.{Passed, Cut}
+use Rattle.std.specs.Prelude.{Some, None, Ok, Err}
+use Rattle.search.specs.declared.best.Passed.{Passed}
+use Rattle.search.specs.declared.best.Cut.{Cut}
 use Rattle.walk.specs.declared.reach.Reached.{Reached}
 use Rattle.walk.specs.declared.reach.Reached.TheVariants.{Ended, Unsettled}
 use Rattle.search.specs.Search.{Best, Walked, passed}
 use Rattle.search.specs.TableSearch.{mark_price}
 use Rattle.search.specs.Counted.{counted}
-use Rattle.search.specs.Finds.{Stores, Gives}
+use Rattle.search.specs.Finds.{Held, Finished, Stores, Gives}
 use Rattle.search.specs.Fine.{Fine, closure_of}
 use Rattle.walk.specs.Stands.{StandsAt, GoesOn, Resting, Somewhere, GivesFrom, Comes, steps_from, walk_from, search_from, try_from}
 use Rattle.search.proofs.Step.{and_then}
@@ -72,17 +71,17 @@ module _ (T : Table) (wf : Wellformed T) (count : Choices) (j : ℕ) (rows : Lis
   try_fine = fine_choice (closure-is_right T wf) stands at.inside at.unsettled sign
 
   -- at the cap
-  pub try_cut : AtCap ≡ counted count → (b : Best) (bytes : List ℕ) → Gives T (tried b) bytes (Cut count.made)
-  try_cut e b bytes = gives_same T bytes (Cut count.made) (choose_capped T count.cap (suc j) chosen_literal P b count.made (counted-cap count e)) refl
+  pub try_cut : None ≡ counted count → (b : Best) (bytes : List ℕ) → Gives T (tried b) bytes (Err (record { made = count.made }))
+  try_cut e b bytes = gives_same T bytes (Err (record { made = count.made })) (choose_capped T count.cap (suc j) chosen_literal P b count.made (counted-cap count e)) refl
 
   -- what was passed is within it
-  pub try_within : count.made ≤ count.cap → (b : Best) (bytes : List ℕ) (best : Held) (c : ℕ) → Gives T (tried b) bytes (Passed best c) → c ≤ count.cap
-  try_within h b bytes best c g = go (eqb count.made count.cap) refl
+  pub try_within : count.made ≤ count.cap → (b : Best) (bytes : List ℕ) (p : Passed) → Gives T (tried b) bytes (Ok p) → p.made ≤ count.cap
+  try_within h b bytes p g = go (eqb count.made count.cap) refl
     where
-      ended : tried b ≡ passed (gives-passed T (tried b) bytes best c g).0 c
-      ended = (gives-passed T (tried b) bytes best c g).1
+      ended : tried b ≡ passed (gives-passed T (tried b) bytes p g).0 p.made
+      ended = (gives-passed T (tried b) bytes p g).1
 
-      go : (x : Bool) → eqb count.made count.cap ≡ x → c ≤ count.cap
+      go : (x : Bool) → eqb count.made count.cap ≡ x → p.made ≤ count.cap
       go true e = omega (arith, h, ap made (sym ended ∙ choose_capped T count.cap (suc j) chosen_literal P b count.made e))
       go false e = omega (
         arith,
@@ -91,7 +90,7 @@ module _ (T : Table) (wf : Wellformed T) (count : Choices) (j : ℕ) (rows : Lis
       )
 
   -- below it
-  module _ (more : Choices) (next : Next more ≡ counted count) (b : Best) where
+  module _ (more : Choices) (next : Some more ≡ counted count) (b : Best) where
     below : eqb count.made count.cap ≡ false
     below = (counted_next count more next).0
 
@@ -109,11 +108,11 @@ module _ (T : Table) (wf : Wellformed T) (count : Choices) (j : ℕ) (rows : Lis
 
     module _ (best : Held) (M : Memory) (bytes : List ℕ) (reached : Reached) (comes : Comes T best M bytes Q b reached) where
       -- an end was reached
-      pub try_ended : (after : Held) → reached ≡ Ended after → Gives T (tried b) bytes (Passed after more.made)
+      pub try_ended : (after : Held) → reached ≡ Ended after → Gives T (tried b) bytes (Ok (record { best = after; made = more.made }))
       try_ended after told = go (subst (Comes T best M bytes Q b) told comes)
         where
-          go : Comes T best M bytes Q b (Ended after) → Gives T (tried b) bytes (Passed after more.made)
-          go (b', stores, same) = gives_same T bytes (Passed after more.made) (as_search ∙ same more.cap (suc j) more.made at.inside) (stores, refl)
+          go : Comes T best M bytes Q b (Ended after) → Gives T (tried b) bytes (Ok (record { best = after; made = more.made }))
+          go (b', stores, same) = gives_same T bytes (Ok (record { best = after; made = more.made })) (as_search ∙ same more.cap (suc j) more.made at.inside) (stores, refl)
 
       -- or a step that is unsettled
       module _ (k : ℕ) (told : reached ≡ Unsettled k) where
@@ -156,12 +155,12 @@ module _ (T : Table) (count : Choices) (j : ℕ) (rows : List ℕ) (P : List (Li
   split = walk_unsettled T count.cap P m b count.made j at.inside at.unsettled
 
   -- the kept try reached the cap
-  pub kept_cut : (bytes : List ℕ) (c : ℕ) → Gives T kept_try bytes (Cut c) → Gives T (walk_from T count.cap j P m b count.made) bytes (Cut c)
-  kept_cut bytes c g = gives_same T bytes (Cut c) split (gives_cut T kept_try (try_from T false count.cap j P) bytes c g)
+  pub kept_cut : (bytes : List ℕ) (c : Cut) → Gives T kept_try bytes (Err c) → Gives T (walk_from T count.cap j P m b count.made) bytes (Err c)
+  kept_cut bytes c g = gives_same T bytes (Err c) split (gives_cut T kept_try (try_from T false count.cap j P) bytes c g)
 
   -- or it passed, and the struck try comes after
-  pub kept_then : (bytes : List ℕ) (best : Held) (c : ℕ) → Gives T kept_try bytes (Passed best c) → (after : List ℕ) (r : Finished)
-      → ((b' : Best) → Stores T b' best bytes → Gives T (try_from T false count.cap j P b' c) after r) → Gives T (walk_from T count.cap j P m b count.made) after r
-  kept_then bytes best c g after r rest =
-      let p = gives-passed T kept_try bytes best c g in
-      gives_same T after r (split ∙ ap (λ (w : Walked). and_then w (try_from T false count.cap j P)) p.1) (rest p.0 p.2)
+  pub kept_then : (bytes : List ℕ) (p : Passed) → Gives T kept_try bytes (Ok p) → (after : List ℕ) (r : Finished)
+      → ((b' : Best) → Stores T b' p.best bytes → Gives T (try_from T false count.cap j P b' p.made) after r) → Gives T (walk_from T count.cap j P m b count.made) after r
+  kept_then bytes p g after r rest =
+      let x = gives-passed T kept_try bytes p g in
+      gives_same T after r (split ∙ ap (λ (w : Walked). and_then w (try_from T false count.cap j P)) x.1) (rest x.0 x.2)

@@ -1,24 +1,19 @@
 -- Where the search stands in the code, and what its functions leave. P is what was chosen, and m the marks of its closure.
-use Rattle.std.specs.Prelude.{ℕ, suc, ◌^◌, ◌≤◌, ◌<◌, ◌≡◌, Bool, true, false, ◌↔◌, List, length, get_or, drop}
-use Rattle.table.specs.Table.{Table, table_of}
+use Rattle.std.specs.Prelude.{ℕ, suc, ◌≤◌, ◌<◌, ◌≡◌, Bool, true, false, ◌↔◌, List, length, drop, Option}
+use Rattle.table.specs.Table.{Table}
 use Rattle.ctl.specs.Levels.{below}
 use Rattle.circuit.specs.Logic.{Literal}
-use Rattle.closure.specs.declared.net.Net.{Net}
-use Rattle.closure.specs.declared.answer.Closure.{Closure}
 use Rattle.closure.specs.Closure.{Marks, mark_at, is_known, known, marked}
-use Rattle.closure.specs.Knowledge.{knowledge, Sized, level_total}
+use Rattle.closure.specs.Knowledge.{knowledge, Sized}
 use Rattle.propagate.specs.Memory.{Memory, memory}
-use Rattle.closure.specs.Closes.{step_known, Between, Closes}
+use Rattle.closure.specs.Closes.{step_known, Between, is_failed, Closes}
 use Rattle.events.specs.Watched.{RestBut}
-use Rattle.events.specs.Setting.{Setting}
-use Rattle.search.specs.declared.best.Best.{Best as Held}
-use Rattle.search.specs.declared.best.Walked.{Walked as Finished}
 use Rattle.walk.specs.declared.reach.Reached.{Reached}
 use Rattle.walk.specs.declared.reach.Reached.TheVariants.{Ended, Unsettled}
 use Rattle.search.specs.Search.{Best, undercuts, Walked, passed, capped, pursue, choose, walk}
 use Rattle.search.specs.TableSearch.{mark_price}
 use Rattle.search.specs.Fine.{Fine, closure_of, step_literals}
-use Rattle.search.specs.Finds.{Stores, Gives}
+use Rattle.search.specs.Finds.{Held, Finished, Stores, Gives}
 
 -- ---- the search of a table, from where it stands
 
@@ -60,16 +55,7 @@ pub record GoesOn (T : Table) (j : ℕ) (M : Memory) (best : Held) (bytes : List
 abbrev pub Resting : Table → Memory → Type 0
 Resting T M = RestBut T 0 (knowledge T M)
 
--- ---- what the functions are handed, and what they leave
-
--- the words have room for those of the levels, and a find for a byte for each step
-pub record Handed (table : List ℕ) (net : Net) (targets bases readers : List ℕ) (levels : ℕ) (rows words bytes : List ℕ) : Type 0 where
-  pub setting : Setting table net targets bases readers
-  pub all_levels : levels ≡ level_total (table_of table)
-  pub rows_size : length rows ≡ 130
-  pub small_rows : (k : ℕ) → get_or rows k 0 < 2 ^ 32
-  pub words_size : level_total (table_of table) ≤ length words
-  pub room : length (table_of table).steps ≤ length bytes
+-- ---- what the functions leave
 
 -- What comes of P: the cheapest find, whatever the cap and wherever the search goes on; or the step at which it stands, cheap enough to go on and at rest.
 module _ (T : Table) (best : Held) (M : Memory) (bytes : List ℕ) (P : List (Literal ℕ)) (b : Best) where
@@ -78,9 +64,9 @@ module _ (T : Table) (best : Held) (M : Memory) (bytes : List ℕ) (P : List (Li
   Comes (Unsettled j) = (m : Marks) × GoesOn T j M best bytes P m b × (undercuts (mark_price T m) b ≡ true) × Resting T M
 
 -- Of all P whose closure the rows have, whatever the words.
-abbrev pub ComesOf : Table → Closure → Held → List ℕ → List ℕ → List ℕ → Reached → Type 0
+abbrev pub ComesOf : Table → Option ℕ → Held → List ℕ → List ℕ → List ℕ → Reached → Type 0
 ComesOf T c best rows bytes after r = (words : List ℕ) (P : List (Literal ℕ)) (b : Best) → Fine (length T.steps) P
-    → Closes T (step_literals P) c (memory rows words) → (c.fails ≡ false → Resting T (memory rows words)) → Stores T b best bytes → Comes T best (memory rows words) after P b r
+    → Closes T (step_literals P) c (memory rows words) → (is_failed c ≡ false → Resting T (memory rows words)) → Stores T b best bytes → Comes T best (memory rows words) after P b r
 
 -- Of all P that the rows lie between it and its closure.
 pub record Reaches (T : Table) (best : Held) (before M : Memory) (bytes after : List ℕ) (r : Reached) : Type 0 where

@@ -1,98 +1,64 @@
 // The search of a table, from nothing chosen.
 ghost use Rattle.std.specs.Prelude.{◌≡◌, false, [], ◌≤◌, length, replicate};
-ghost use Rattle.table.specs.Table.{table_of};
 ghost use Rattle.propagate.specs.Memory.{memory};
 ghost use Rattle.closure.specs.Knowledge.{Sized, level_total};
-ghost use Rattle.closure.specs.Closes.{Closes};
-ghost use Rattle.events.specs.Setting.{Setting};
+ghost use Rattle.closure.specs.Closes.{Closes, is_failed};
+ghost use Rattle.events.specs.NetTable.{table_in};
 ghost use Rattle.search.specs.Search.{unfound};
 ghost use Rattle.search.specs.TableSearch.{search_under};
 ghost use Rattle.search.specs.Answer.{outcome_of, list_after};
 ghost use Rattle.search.specs.Finds.{Gives};
-ghost use Rattle.walk.specs.Stands.{Handed, Resting, search_from};
+ghost use Rattle.walk.specs.Stands.{Resting, search_from};
 
 use crate::reach::{Reached, assess};
 use crate::tries::both_ways;
-use crate::words::zero;
-use closure::{Closure, Net};
-use search::{Best, Choices, Outcome, Walked, finish};
+use events::{Net, close};
+use search::{Choices, Cut, Outcome, Passed, finish};
 
 // The closure of nothing, with no step and no level known at first.
-fn close_nothing(
-    table: &[u8],
-    net: Net,
-    targets: &[u32],
-    bases: &[usize],
-    readers: &[u32],
-    rows: &mut [u32],
-    words: &mut [u32],
-) -> Closure
-    requires setting { Setting table.now net targets.now bases.now readers.now }
+fn close_nothing(net: &Net<'_>, rows: &mut [u32; 130], words: &mut [u32]) -> Option<u32>
     requires rows_value { rows.old ≡ replicate 130 0 }
-    requires words_room { level_total (table_of table.now) ≤ length words.old }
-    ensures sized { Sized (table_of table.now) (memory rows.new words.new) }
-    ensures closes { Closes (table_of table.now) [] result (memory rows.new words.new) }
-    ensures resting { result.fails ≡ false → Resting (table_of table.now) (memory rows.new words.new) }
+    requires words_room { level_total (table_in net.now) ≤ length words.old }
+    ensures sized { Sized (table_in net.now) (memory rows.new words.new) }
+    ensures closes { Closes (table_in net.now) [] result (memory rows.new words.new) }
+    ensures resting { is_failed result ≡ false → Resting (table_in net.now) (memory rows.new words.new) }
 {
-    zero(words);
-    events::close(table, net, targets, bases, readers, rows, words, true, 0)
+    words.fill(0);
+    close(net, rows, words, None)
 }
 
 // All of the search: what is tried from the closure of nothing. The list of the cheapest find is left in `find`.
 fn walk_table(
-    table: &[u8],
-    net: Net,
-    targets: &[u32],
-    bases: &[usize],
-    readers: &[u32],
-    levels: usize,
-    rows: [u32; 130],
-    closed: Closure,
+    net: &Net<'_>,
+    rows: &[u32; 130],
+    closed: Option<u32>,
     cap: u64,
-    find: &mut [u8],
+    find: &mut [u8; 128],
     words: &mut [u32],
-) -> Walked
-    requires handed { Handed table.now net targets.now bases.now readers.now levels rows words.old find.old }
-    requires closes { Closes (table_of table.now) [] closed (memory rows words.old) }
-    requires resting { closed.fails ≡ false → Resting (table_of table.now) (memory rows words.old) }
-    ensures { Gives (table_of table.now) (search_from (table_of table.now) cap 0 [] unfound 0) find.new result }
+) -> Result<Passed, Cut>
+    requires words_room { level_total (table_in net.now) ≤ length words.old }
+    requires closes { Closes (table_in net.now) [] closed (memory rows.now words.old) }
+    requires resting { is_failed closed ≡ false → Resting (table_in net.now) (memory rows.now words.old) }
+    ensures { Gives (table_in net.now) (search_from (table_in net.now) cap 0 [] unfound 0) find.new result }
 {
-    let none = Best::Unfound;
     let count = Choices { made: 0, cap };
-    match assess(table, &rows, closed, none, find) {
-        Reached::Ended(best) => Walked::Passed(best, 0),
-        Reached::Unsettled(j) => both_ways(
-            table, net, targets, bases, readers, levels, rows, j, count, none, find, words,
-        ),
+    match assess(net, rows, closed, None, find) {
+        Reached::Ended(best) => Ok(Passed { best, made: 0 }),
+        Reached::Unsettled(j) => both_ways(net, rows, j, count, None, find, words),
     }
 }
 
-// The answer under a cap. A found list is written to the front of `list`; all of the words may be used, and the first `levels` have to be there.
-pub fn search_table(
-    table: &[u8],
-    net: Net,
-    targets: &[u32],
-    bases: &[usize],
-    readers: &[u32],
-    levels: usize,
-    cap: u64,
-    list: &mut [u8],
-    words: &mut [u32],
-) -> Outcome
-    requires setting { Setting table.now net targets.now bases.now readers.now }
-    requires levels_value { levels ≡ level_total (table_of table.now) }
-    requires words_room { level_total (table_of table.now) ≤ length words.old }
-    requires list_room { length (table_of table.now).steps ≤ length list.old }
-    ensures value { result ≡ outcome_of (search_under (table_of table.now) cap) }
-    ensures list_after { list.new ≡ list_after (table_of table.now) (search_under (table_of table.now) cap) list.old }
+// The answer under a cap. A found list is written to the front of `list`; all of the words may be used, and those of the levels have to be there.
+pub fn search_table(net: &Net<'_>, cap: u64, list: &mut [u8], words: &mut [u32]) -> Outcome
+    requires words_room { level_total (table_in net.now) ≤ length words.old }
+    requires list_room { length (table_in net.now).steps ≤ length list.old }
+    ensures value { result ≡ outcome_of (search_under (table_in net.now) cap) }
+    ensures list_after { list.new ≡ list_after (table_in net.now) (search_under (table_in net.now) cap) list.old }
     ensures words_len_unchanged { length words.new ≡ length words.old }
 {
     let mut find = [0u8; 128];
     let mut rows = [0u32; 130];
-    let closed = close_nothing(table, net, targets, bases, readers, &mut rows, words);
-    let settled = closed.settled;
-    let walked = walk_table(
-        table, net, targets, bases, readers, levels, rows, closed, cap, &mut find, words,
-    );
-    finish(table, walked, settled, &find, list)
+    let closed = close_nothing(net, &mut rows, words);
+    let walked = walk_table(net, &rows, closed, cap, &mut find, words);
+    finish(&net.table, walked, closed.unwrap_or(0), &find, list)
 }

@@ -8,7 +8,10 @@ use lib.Dec.{eqb}
 use Rattle.sets.specs.Member.{member, set_of}
 use Rattle.sets.proofs.SetOf.{set_of_cong, member-set_of-below}
 use Rattle.table.specs.declared.refusal.Refusal.TheVariants.{NoInitialKept, RootFails, UnreachedStep}
-use Rattle.table.specs.declared.refusal.Verdict.TheVariants.{Accepted}
+use Rattle.std.specs.Prelude.{Ok, Err}
+use Rattle.std.proofs.Common.{rules}
+use Rattle.table.specs.Facts.{Wellformed}
+use Rattle.table.proofs.Facts.{accepted}
 use Rattle.table.specs.Verdict.{require, ◌then◌}
 use Rattle.table.specs.Table.{table_of}
 use Rattle.table.specs.Accept.{initial_at}
@@ -17,41 +20,44 @@ use Rattle.ctl.specs.Labels.{is_kept}
 use Rattle.ctl.specs.Reached.{is_initial_kept}
 use Rattle.ctl.specs.Tests.{keeps_initial, leaves_reached, root_marked, judge_verdict}
 use Rattle.label.specs.declared.analysis.Analysis.{Analysis}
-use Rattle.label.specs.declared.analysis.Room.TheVariants.{Any}
-use Rattle.label.specs.Analysis.{analysis_of, analysis_verdict}
-use Rattle.label.proofs.Analysed.{verdict_is, passed, packed, rows_are, initial_is, kept_is, root_is}
+use Rattle.label.specs.declared.room.Room.TheVariants.{Any}
+use Rattle.label.specs.Analysis.{analysis_verdict, sets_of}
+use Rattle.label.proofs.Order.{table_accepted}
+use Rattle.label.proofs.Ways.{way_refused, way_passed}
 use Rattle.judge.specs.Reached.{Least}
 use Rattle.judge.proofs.Starts.{keeps_word, unreached_word, root_word}
 use Rattle.judge.proofs.ReachedStates.{reached_word}
 use Rattle.judge.proofs.Order.{last_tests, judge_order}
 use Rattle.judge.proofs.judge_list.Goals as goal
 
-module _ (table list : List ℕ) (a : Analysis) (e : a ≡ analysis_of Any table list) (ok : a.verdict ≡ Accepted) where
+module _ (table list : List ℕ) (ok : analysis_verdict true table list ≡ Ok tt) (a : Analysis) (e : a ≡ sets_of (table_of table) list) where
+  wf : Wellformed (table_of table)
+  wf = (accepted table (table_accepted true table list ok)).table
+
   -- what is left to test
   left : judge_verdict table list ≡ last_tests (table_of table) list
-  left = judge_order table list ∙ then_next (analysis_verdict Any table list) _ (passed Any table list a e ok)
+  left = judge_order table list ∙ then_next (analysis_verdict true table list) _ ok
 
   module _ (w : ℕ) (f : w ≡ set_of 32 (λ t. member a.initial t && member a.kept t)) where
     starts_are : w ≡ set_of 32 (is_initial_kept (table_of table) list)
     starts_are =
         f ∙ set_of_cong 32 _ _ (λ s h. λ i.
-        (ap (λ (m : ℕ). member m s) (initial_is Any table list a e ok)
+        (ap (λ (m : ℕ). member m s) (ap (λ (x : Analysis). x.initial) e)
         ∙ member-set_of-below 32 (initial_at (table_of table)) s h) i
-        && (ap (λ (m : ℕ). member m s) (kept_is Any table list a e ok)
+        && (ap (λ (m : ℕ). member m s) (ap (λ (x : Analysis). x.kept) e)
         ∙ member-set_of-below 32 (is_kept (table_of table) list) s h) i)
 
     -- 12, 16 and 13, by the sets that the code tests
     keeps : not (eqb w 0) ≡ keeps_initial (table_of table) list
-    keeps = keeps_word (table_of table) (packed Any table list a e ok).table list w starts_are
+    keeps = keeps_word (table_of table) wf list w starts_are
 
     leaves : (r : ℕ) → Least a.rows w r → (x : ℕ) → x ≡ set_of 32 (λ t. member a.kept t && not (member r t)) → eqb x 0 ≡ leaves_reached (table_of table) list
     leaves r least x g =
-        let wf = (packed Any table list a e ok).table in
-        unreached_word (table_of table) wf list a.kept r x (kept_is Any table list a e ok)
-        (reached_word (table_of table) wf list a.rows (rows_are Any table list a e ok) w starts_are r least) g
+        unreached_word (table_of table) wf list a.kept r x (ap (λ (x : Analysis). x.kept) e)
+        (reached_word (table_of table) wf list a.rows (ap (λ (x : Analysis). x.rows) e) w starts_are r least) g
 
     root_marks : (x : ℕ) → x ≡ set_of 32 (λ t. member w t && not (member a.root t)) → eqb x 0 ≡ root_marked (table_of table) list
-    root_marks x g = root_word (table_of table) (packed Any table list a e ok).table list w a.root x starts_are (root_is Any table list a e ok) g
+    root_marks x g = root_word (table_of table) wf list w a.root x starts_are (ap (λ (x : Analysis). x.root) e) g
 
     -- with an initial state that is kept, 16 and 13 are left, and the set x decides 16
     reached_left : eqb w 0 ≡ false → (r : ℕ) → Least a.rows w r → (x : ℕ) → x ≡ set_of 32 (λ t. member a.kept t && not (member r t))
@@ -67,48 +73,50 @@ module _ (table list : List ℕ) (a : Analysis) (e : a ≡ analysis_of Any table
     root_left some r least x g all y m =
         reached_left some r least x g ∙ then_next _ _ (ap (require UnreachedStep) all) ∙ ap (require RootFails) (sym (root_marks y m))
 
-pub returns-in-Refused : goal.returns-in-Refused
-returns-in-Refused c =
+pub returns-in_err-a : goal.returns-in_err-a
+returns-in_err-a c =
     let t = c.args.table.now in
     let l = c.args.list.now in
-    let v = verdict_is Any t l c.analyse-a.result c.analyse-a.ensures in
-    v ∙ sym (judge_order t l ∙ then_refused (analysis_verdict Any t l) _ c.in-Refused.field-0 (sym v ∙ c.in-Refused.is))
+    let r = c.in_err-a.field-0.0 in
+    let gives : c.from_residual.result ≡ Err r = search rules in
+    let refused = way_refused Any t l r (sym c.in_err-a.was ∙ c.analyse.ensures) in
+    gives ∙ sym (judge_order t l ∙ then_refused (analysis_verdict true t l) _ r refused ∙ refused)
 
 pub returns-then-starts-eq0 : goal.returns-then-starts-eq0
 returns-then-starts-eq0 c =
-    let A = c.analyse-a in
+    let k = way_passed Any c.args.table.now c.args.list.now c.in_ok-a.a (sym c.in_ok-a.was ∙ c.analyse.ensures) in
     let starts = c.intersection-starts in
-    let none = sym (keeps _ _ A.result A.ensures c.in_default.is starts.result starts.ensures) ∙ ap not (eq-eqb starts.result 0 c.if-starts-eq0.true) in
+    let none = sym (keeps _ _ k.0 c.in_ok-a.a k.1 starts.result starts.ensures) ∙ ap not (eq-eqb starts.result 0 c.if-starts-eq0.true) in
     let refuses = ap (require NoInitialKept) none in
-    sym (left _ _ A.result A.ensures c.in_default.is ∙ then_refused _ _ NoInitialKept refuses ∙ refuses)
+    sym (left _ _ k.0 c.in_ok-a.a k.1 ∙ then_refused _ _ NoInitialKept refuses ∙ refuses)
 
 pub returns-then-minus-ne0 : goal.returns-then-minus-ne0
 returns-then-minus-ne0 c =
-    let A = c.analyse-a in
+    let k = way_passed Any c.args.table.now c.args.list.now c.in_ok-a.a (sym c.in_ok-a.was ∙ c.analyse.ensures) in
     let starts = c.intersection-starts in
     let reached = c.reached_states-reached in
     let refuses = ap (require UnreachedStep) (ne_eqb c.minus.result 0 c.if-minus-ne0.true) in
     sym (
-    reached_left _ _ A.result A.ensures c.in_default.is starts.result starts.ensures (ne_eqb starts.result 0 c.if-starts-eq0.false) reached.result reached.ensures c.minus.result c.minus.ensures
+    reached_left _ _ k.0 c.in_ok-a.a k.1 starts.result starts.ensures (ne_eqb starts.result 0 c.if-starts-eq0.false) reached.result reached.ensures c.minus.result c.minus.ensures
     ∙ then_refused _ _ UnreachedStep refuses ∙ refuses
     )
 
 pub returns-then-minus-ne0-2 : goal.returns-then-minus-ne0-2
 returns-then-minus-ne0-2 c =
-    let A = c.analyse-a in
+    let k = way_passed Any c.args.table.now c.args.list.now c.in_ok-a.a (sym c.in_ok-a.was ∙ c.analyse.ensures) in
     let starts = c.intersection-starts in
     let reached = c.reached_states-reached in
     let root =
-    root_left _ _ A.result A.ensures c.in_default.is starts.result starts.ensures (ne_eqb starts.result 0 c.if-starts-eq0.false)
+    root_left _ _ k.0 c.in_ok-a.a k.1 starts.result starts.ensures (ne_eqb starts.result 0 c.if-starts-eq0.false)
     reached.result reached.ensures c.minus.result c.minus.ensures (eq-eqb c.minus.result 0 c.if-minus-ne0.false) c.minus-2.result c.minus-2.ensures in
     sym (root ∙ ap (require RootFails) (ne_eqb c.minus-2.result 0 c.if-minus-ne0-2.true))
 
 pub returns : goal.returns
 returns c =
-    let A = c.analyse-a in
+    let k = way_passed Any c.args.table.now c.args.list.now c.in_ok-a.a (sym c.in_ok-a.was ∙ c.analyse.ensures) in
     let starts = c.intersection-starts in
     let reached = c.reached_states-reached in
     let root =
-    root_left _ _ A.result A.ensures c.in_default.is starts.result starts.ensures (ne_eqb starts.result 0 c.if-starts-eq0.false)
+    root_left _ _ k.0 c.in_ok-a.a k.1 starts.result starts.ensures (ne_eqb starts.result 0 c.if-starts-eq0.false)
     reached.result reached.ensures c.minus.result c.minus.ensures (eq-eqb c.minus.result 0 c.if-minus-ne0.false) c.minus-2.result c.minus-2.ensures in
-    c.in_default.is ∙ sym (root ∙ ap (require RootFails) (eq-eqb c.minus-2.result 0 c.if-minus-ne0-2.false))
+    sym (root ∙ ap (require RootFails) (eq-eqb c.minus-2.result 0 c.if-minus-ne0-2.false))

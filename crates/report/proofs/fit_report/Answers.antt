@@ -5,29 +5,27 @@ use mathlib.Core.List.{List}
 use native.Mathlib.Omega.{arith}
 use lib.ListN.{length, take}
 use lib.Seq.{length-take-le}
-use Rattle.table.specs.declared.refusal.Verdict.TheVariants.{Accepted}
+use Rattle.std.specs.Prelude.{Ok}
 use Rattle.table.specs.Accept.{table_verdict}
-use Rattle.reader.specs.declared.answer.Read.{Read}
-use Rattle.reader.specs.declared.answer.Read.TheVariants.{Length}
-use Rattle.reader.specs.Read.{read_answer, read_buffer}
+use Rattle.reader.specs.Read.{Answer, read_answer, read_buffer}
 use Rattle.render.proofs.Left.{room_as, stored_as}
-use Rattle.report.specs.Report.{zeros, read_text, fit_text}
+use Rattle.report.specs.Report.{zeros, read_text, table_text, fit_text}
 use Rattle.report.proofs.Accepted.{read_short, read_accepted}
 use Rattle.report.proofs.Cases.{too_long, text_read, text_room, stored_front}
 use Rattle.report.proofs.fit_report.Goals as goal
 
 -- a text that was read, with this answer
-module _ (text : List ℕ) {answer : Read} (value : answer ≡ read_answer text (zeros 580)) where
+module _ (text : List ℕ) {answer : Answer} (value : answer ≡ read_answer text (zeros 580)) where
   -- and this buffer
-  text_is : {buffer : List ℕ} → length text ≤ 4096 → buffer ≡ read_buffer text (zeros 580) → {r : Read} → answer ≡ r → read_text r buffer ≡ fit_text text
-  text_is {buffer} h left e = ap (λ (x : Read). read_text x buffer) (sym e) ∙ sym (text_read text h answer buffer value left)
+  text_is : {buffer : List ℕ} → length text ≤ 4096 → buffer ≡ read_buffer text (zeros 580) → {r : Answer} → answer ≡ r → read_text r buffer ≡ fit_text text
+  text_is {buffer} h left e = ap (λ (x : Answer). read_text x buffer) (sym e) ∙ sym (text_read text h answer buffer value left)
 
   -- to a table, of n bytes
-  module _ {n : ℕ} (e : answer ≡ Length n) where
+  module _ {n : ℕ} (e : answer ≡ Ok n) where
     short : n ≤ 580
     short = read_short text (zeros 580) n (sym value ∙ e)
 
-    accepted : {buffer : List ℕ} → buffer ≡ read_buffer text (zeros 580) → table_verdict (take n buffer) ≡ Accepted
+    accepted : {buffer : List ℕ} → buffer ≡ read_buffer text (zeros 580) → table_verdict (take n buffer) ≡ Ok tt
     accepted left = ap (λ (l : List ℕ). table_verdict (take n l)) left ∙ read_accepted text (zeros 580) n (sym value ∙ e)
 
 pub write_refused-requires : goal.write_refused-requires
@@ -42,35 +40,35 @@ returns-then-text-gt-MOST c =
     record { value = k.0; out_after = k.1 }
 
 pub slice_bounds-table-end : goal.slice_bounds-table-end
-slice_bounds-table-end c = omega (arith, short c.args.text.now c.read.ensures.value c.in-Length.is, c.read.auto.out)
+slice_bounds-table-end c = omega (arith, short c.args.text.now c.read.ensures.value c.in-Ok.is, c.read.auto.out)
 
-pub slice_bounds-report_table-end : goal.slice_bounds-report_table-end
-slice_bounds-report_table-end c = sym (length-take-le _ _ (omega (arith, short c.args.text.now c.read.ensures.value c.in-Length.is, c.read.auto.out)))
+pub slice_bounds-new-end : goal.slice_bounds-new-end
+slice_bounds-new-end c = sym (length-take-le _ _ (omega (arith, short c.args.text.now c.read.ensures.value c.in-Ok.is, c.read.auto.out)))
+
+pub new-accepted-requires : goal.new-accepted-requires
+new-accepted-requires c = accepted c.args.text.now c.read.ensures.value c.in-Ok.is c.read.ensures.out_after
 
 pub report_table-requires : goal.report_table-requires
 report_table-requires c =
     let text = c.args.text.now in
-    record {
-      table_value = accepted text c.read.ensures.value c.in-Length.is c.read.ensures.out_after;
-      room =
-          room_as _ _ _ _ (text_is text c.read.ensures.value c.if-text-gt-MOST.false c.read.ensures.out_after c.in-Length.is) (text_room text c.args.out.now c.requires);
-    }
+    let same = ap table_text c.new-accepted.ensures ∙ text_is text c.read.ensures.value c.if-text-gt-MOST.false c.read.ensures.out_after c.in-Ok.is in
+    room_as _ _ _ _ same (text_room text c.args.out.now c.requires)
 
-pub write_refused-requires-in-Refused : goal.write_refused-requires-in-Refused
-write_refused-requires-in-Refused c =
+pub write_refused-requires-in-Err : goal.write_refused-requires-in-Err
+write_refused-requires-in-Err c =
     let text = c.args.text.now in
-    room_as _ _ _ _ (text_is text c.read.ensures.value c.if-text-gt-MOST.false c.read.ensures.out_after c.in-Refused.is) (text_room text c.args.out.now c.requires)
+    room_as _ _ _ _ (text_is text c.read.ensures.value c.if-text-gt-MOST.false c.read.ensures.out_after c.in-Err.is) (text_room text c.args.out.now c.requires)
 
-pub returns-in-Length : goal.returns-in-Length
-returns-in-Length c =
+pub returns-in-Ok : goal.returns-in-Ok
+returns-in-Ok c =
     let text = c.args.text.now in
-    let same = text_is text c.read.ensures.value c.if-text-gt-MOST.false c.read.ensures.out_after c.in-Length.is in
+    let same = ap table_text c.new-accepted.ensures ∙ text_is text c.read.ensures.value c.if-text-gt-MOST.false c.read.ensures.out_after c.in-Ok.is in
     let k = stored_front c.args.out.now (fit_text text) _ _ (text_room text c.args.out.now c.requires) (stored_as _ _ _ _ _ _ same c.report_table.ensures) in
     record { value = k.0; out_after = k.1 }
 
-pub returns-in-Refused : goal.returns-in-Refused
-returns-in-Refused c =
+pub returns-in-Err : goal.returns-in-Err
+returns-in-Err c =
     let text = c.args.text.now in
-    let same = text_is text c.read.ensures.value c.if-text-gt-MOST.false c.read.ensures.out_after c.in-Refused.is in
-    let k = stored_front c.args.out.now (fit_text text) _ _ (text_room text c.args.out.now c.requires) (stored_as _ _ _ _ _ _ same c.write_refused-in-Refused.ensures) in
+    let same = text_is text c.read.ensures.value c.if-text-gt-MOST.false c.read.ensures.out_after c.in-Err.is in
+    let k = stored_front c.args.out.now (fit_text text) _ _ (text_room text c.args.out.now c.requires) (stored_as _ _ _ _ _ _ same c.write_refused-in-Err.ensures) in
     record { value = k.0; out_after = k.1 }

@@ -5,9 +5,11 @@ use mathlib.Core.List.{List}
 use lib.ListN.{length}
 use Rattle.table.specs.declared.counts.Counts.{Counts}
 use Rattle.table.specs.Table.{records, state_of, step_of, node_of, counts_of, states_part, steps_part, nodes_part, table_of, state_width, step_width, node_width}
-use Rattle.table.specs.Accept.{states_verdict, steps_verdict, nodes_verdict}
+use Rattle.table.specs.Accept.{states_verdict, steps_verdict, nodes_verdict, records_verdict}
 use Rattle.table.proofs.Records.{records-length}
 use Rattle.table.proofs.Verdicts.{then_refused, then_next}
+use Rattle.std.proofs.Common.{rules}
+use Rattle.std.specs.Prelude.{Err}
 use Rattle.accept.proofs.check.check_sections.Goals as goal
 
 -- the verdict of a section read with the table's counts is that of the table's records
@@ -23,30 +25,25 @@ module _ (l : List ℕ) (k : Counts) (here : k ≡ counts_of l) where
   of_nodes : (part : List ℕ) → part ≡ nodes_part l → nodes_verdict k.props (records node_of node_width k.nodes part) ≡ nodes_verdict (table_of l).props (table_of l).nodes
   of_nodes part e i = nodes_verdict (here i).props (records node_of node_width (here i).nodes (e i))
 
-pub returns-in-Refused : goal.returns-in-Refused
-returns-in-Refused c =
-    let a = c.args in
-    let l = a.table.now in
-    let first = c.check_states-first.ensures ∙ of_states l a.c c.requires.c_value c.states_part.result.now c.states_part.ensures in
-    first ∙ sym (then_refused (states_verdict (table_of l).props (table_of l).states) _ c.in-Refused.field-0 (sym first ∙ c.in-Refused.is))
-
-pub returns-in-Refused-second : goal.returns-in-Refused-second
-returns-in-Refused-second c =
-    let a = c.args in
-    let l = a.table.now in
-    let first = c.check_states-first.ensures ∙ of_states l a.c c.requires.c_value c.states_part.result.now c.states_part.ensures in
-    let second = c.check_steps-second.ensures ∙ of_steps l a.c c.requires.c_value c.steps_part.result.now c.steps_part.ensures in
-    second
-    ∙ sym (then_refused (steps_verdict (length (table_of l).states) (table_of l).steps) (nodes_verdict (table_of l).props (table_of l).nodes) c.in-Refused-second.field-0 (sym second ∙ c.in-Refused-second.is))
-    ∙ sym (then_next (states_verdict (table_of l).props (table_of l).states) _ (sym first ∙ c.in_default.is))
+pub returns-in_err-check_steps : goal.returns-in_err-check_steps
+returns-in_err-check_steps c =
+    let l = c.args.table.now in
+    let first = c.check_states.ensures ∙ of_states l c.args.c c.requires.counts_are c.sections_of-sections.result.states.now c.sections_of-sections.ensures.states in
+    let second = c.check_steps.ensures ∙ of_steps l c.args.c c.requires.counts_are c.sections_of-sections.result.steps.now c.sections_of-sections.ensures.steps in
+    let refuses = sym second ∙ c.in_err-check_steps.was in
+    let whole : records_verdict (table_of l) ≡ Err c.in_err-check_steps.field-0.0 =
+    then_next (states_verdict (table_of l).props (table_of l).states) _ (sym first ∙ c.in_ok-check_states.was)
+    ∙ then_refused (steps_verdict (length (table_of l).states) (table_of l).steps) (nodes_verdict (table_of l).props (table_of l).nodes) _ refuses
+    ∙ refuses in
+    search (rules, whole)
 
 pub returns : goal.returns
 returns c =
     let a = c.args in
     let l = a.table.now in
-    let first = c.check_states-first.ensures ∙ of_states l a.c c.requires.c_value c.states_part.result.now c.states_part.ensures in
-    let second = c.check_steps-second.ensures ∙ of_steps l a.c c.requires.c_value c.steps_part.result.now c.steps_part.ensures in
-    let third = c.check_nodes.ensures ∙ of_nodes l a.c c.requires.c_value c.nodes_part.result.now c.nodes_part.ensures in
+    let first = c.check_states.ensures ∙ of_states l a.c c.requires.counts_are c.sections_of-sections.result.states.now c.sections_of-sections.ensures.states in
+    let second = c.check_steps.ensures ∙ of_steps l a.c c.requires.counts_are c.sections_of-sections.result.steps.now c.sections_of-sections.ensures.steps in
+    let third = c.check_nodes.ensures ∙ of_nodes l a.c c.requires.counts_are c.sections_of-sections.result.nodes.now c.sections_of-sections.ensures.nodes in
     third
-    ∙ sym (then_next (steps_verdict (length (table_of l).states) (table_of l).steps) (nodes_verdict (table_of l).props (table_of l).nodes) (sym second ∙ c.in_default-second.is))
-    ∙ sym (then_next (states_verdict (table_of l).props (table_of l).states) _ (sym first ∙ c.in_default.is))
+    ∙ sym (then_next (steps_verdict (length (table_of l).states) (table_of l).steps) (nodes_verdict (table_of l).props (table_of l).nodes) (sym second ∙ c.in_ok-check_steps.was))
+    ∙ sym (then_next (states_verdict (table_of l).props (table_of l).states) _ (sym first ∙ c.in_ok-check_states.was))

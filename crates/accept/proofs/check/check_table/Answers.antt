@@ -8,7 +8,7 @@ use lib.Dec.{eqb}
 use lib.ListN.{length}
 use Rattle.table.specs.Table.{counts_of, packed_length}
 use Rattle.table.specs.Accept.{counts_fit, table_verdict}
-use Rattle.table.proofs.Accepted.{counts_within}
+use Rattle.table.proofs.Facts.{counts_within}
 use Rattle.accept.proofs.check.check_table.Goals as goal
 
 pub returns-then-table-lt-HEADER_WIDTH : goal.returns-then-table-lt-HEADER_WIDTH
@@ -42,8 +42,8 @@ pub check_sections-requires : goal.check_sections-requires
 check_sections-requires c =
     let w = counts_within c.counts_of-c.result (sym c.counts_fit.ensures ∙ c.if-not-counts_fit.false) in
     record {
-      c_value = c.counts_of-c.ensures;
-      states_bound = (w.few_states, w.few_props);
+      counts_are = c.counts_of-c.ensures;
+      counts_bound = (w.few_states, w.few_props);
     }
 
 pub returns : goal.returns

@@ -1,13 +1,10 @@
 -- `check_list` meets its contract. The loop's invariant: the list's bytes are all bits exactly when those from j on are.
-use Prim.Native.Nat.{◌-◌, ◌≤◌}
+use Prim.Native.Nat.{◌≤◌}
 use lib.Dec.{leb}
 use lib.ListN.{length, drop}
 use mathlib.Core.Path.{◌≡◌}
 use Rattle.table.specs.Accept.{all}
 use Rattle.accept.proofs.list.check_list.Given as goal
 
-abbrev pub invariant-loop-j : goal.invariant-loop-j
-invariant-loop-j l = (l.j ≤ length l.list) × (all (λ b. leb b 1) l.list ≡ all (λ b. leb b 1) (drop l.j l.list))
-
-abbrev pub decreases-loop-j : goal.decreases-loop-j
-decreases-loop-j l = length l.list - l.j
+abbrev pub invariant-loop-byte : goal.invariant-loop-byte
+invariant-loop-byte l = (l.byte-index ≤ length l.list) × (all (λ b. leb b 1) l.list ≡ all (λ b. leb b 1) (drop l.byte-index l.list))

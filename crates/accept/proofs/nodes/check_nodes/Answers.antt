@@ -25,23 +25,20 @@ pub returns-then-not-fields_fit : goal.returns-then-not-fields_fit
 returns-then-not-fields_fit c =
     let a = c.args in
     let i = c.loop-i.i in
-    let x = c.node_at-x.result in
+    let x = c.record_at-x.result in
     let fails : node_fits a.p i x ≡ false =
     sym (tested a.p i x c.shape_of.result c.shape_of.ensures c.fields_fit.result c.fields_fit.ensures) ∙ c.if-not-fields_fit.true in
-    let whole = c.loop-i.invariant.1 ∙ record_nodes a.p node_of node_width a.f a.section.now i c.loop-i-test.true x c.node_at-x.ensures ∙ ap (λ (b : Bool). b && nodes_fit a.p (i + 1) (drop (i + 1) (records node_of node_width a.f a.section.now))) fails in
+    let whole = c.loop-i.invariant.1 ∙ record_nodes a.p node_of node_width a.f a.section.now i c.loop-i-test.true x c.record_at-x.ensures ∙ ap (λ (b : Bool). b && nodes_fit a.p (i + 1) (drop (i + 1) (records node_of node_width a.f a.section.now))) fails in
     ap (require NodeRecord) (sym whole)
-
-pub loop-i-smaller : goal.loop-i-smaller
-loop-i-smaller c = omega arith
 
 pub loop-i-preserved : goal.loop-i-preserved
 loop-i-preserved c =
     let a = c.args in
     let i = c.loop-i.i in
-    let x = c.node_at-x.result in
+    let x = c.record_at-x.result in
     let fits : node_fits a.p i x ≡ true =
     sym (tested a.p i x c.shape_of.result c.shape_of.ensures c.fields_fit.result c.fields_fit.ensures) ∙ c.if-not-fields_fit.false in
-    (omega arith, c.loop-i.invariant.1 ∙ record_nodes a.p node_of node_width a.f a.section.now i c.loop-i-test.true x c.node_at-x.ensures ∙ ap (λ (b : Bool). b && nodes_fit a.p (i + 1) (drop (i + 1) (records node_of node_width a.f a.section.now))) fits)
+    (omega arith, c.loop-i.invariant.1 ∙ record_nodes a.p node_of node_width a.f a.section.now i c.loop-i-test.true x c.record_at-x.ensures ∙ ap (λ (b : Bool). b && nodes_fit a.p (i + 1) (drop (i + 1) (records node_of node_width a.f a.section.now))) fits)
 
 pub returns : goal.returns
 unfolding nodes_fit

@@ -20,23 +20,20 @@ pub returns-then-not-state_fits : goal.returns-then-not-state_fits
 returns-then-not-state_fits c =
     let a = c.args in
     let i = c.loop-i.i in
-    let x = c.state_at-s.result in
+    let x = c.record_at-s.result in
     let xs = records state_of state_width a.n a.section.now in
     let fails : state_fits a.p x ≡ false = sym c.state_fits.ensures ∙ c.if-not-state_fits.true in
-    let whole : all (state_fits a.p) xs ≡ false = c.loop-i.invariant.1 ∙ record_all state_of state_width a.n a.section.now i c.loop-i-test.true x c.state_at-s.ensures (state_fits a.p) ∙ ap (λ (b : Bool). b && all (state_fits a.p) (drop (i + 1) xs)) fails in
+    let whole : all (state_fits a.p) xs ≡ false = c.loop-i.invariant.1 ∙ record_all state_of state_width a.n a.section.now i c.loop-i-test.true x c.record_at-s.ensures (state_fits a.p) ∙ ap (λ (b : Bool). b && all (state_fits a.p) (drop (i + 1) xs)) fails in
     ap (λ (b : Bool). require StateRecord b then require NoInitial (any is_initial xs)) (sym whole)
-
-pub loop-i-smaller : goal.loop-i-smaller
-loop-i-smaller c = omega arith
 
 pub loop-i-preserved : goal.loop-i-preserved
 loop-i-preserved c =
     let a = c.args in
     let i = c.loop-i.i in
-    let x = c.state_at-s.result in
+    let x = c.record_at-s.result in
     let xs = records state_of state_width a.n a.section.now in
     let h = c.loop-i-test.true in
-    let here = c.state_at-s.ensures in
+    let here = c.record_at-s.ensures in
     let fits : state_fits a.p x ≡ true = sym c.state_fits.ensures ∙ c.if-not-state_fits.false in
     let rest = any is_initial (drop (i + 1) xs) in
     let inv = c.loop-i.invariant.2 in

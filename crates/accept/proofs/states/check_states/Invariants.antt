@@ -1,6 +1,6 @@
 -- `check_states` meets its contract. The loop's invariant: the records before i fit, and what was found says whether one of them is initial.
 use mathlib.Core.Bool.{◌||◌}
-use Prim.Native.Nat.{◌-◌, ◌≤◌}
+use Prim.Native.Nat.{◌≤◌}
 use mathlib.Core.Path.{◌≡◌}
 use lib.ListN.{drop}
 use Rattle.table.specs.Table.{records, state_of, state_width}
@@ -12,6 +12,3 @@ invariant-loop-i l =
     (l.i ≤ l.n)
     × (all (state_fits l.p) (records state_of state_width l.n l.section) ≡ all (state_fits l.p) (drop l.i (records state_of state_width l.n l.section)))
     × (any is_initial (records state_of state_width l.n l.section) ≡ l.found || any is_initial (drop l.i (records state_of state_width l.n l.section)))
-
-abbrev pub decreases-loop-i : goal.decreases-loop-i
-decreases-loop-i l = l.n - l.i

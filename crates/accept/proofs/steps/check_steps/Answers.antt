@@ -14,7 +14,7 @@ use Rattle.table.specs.declared.refusal.Refusal.TheVariants.{StepEnd, RepeatedSt
 use Rattle.table.specs.Verdict.{require, ◌then◌}
 use Rattle.table.specs.Table.{records, step_of, step_width}
 use Rattle.table.specs.Accept.{all, step_fits, distinct}
-use Rattle.table.proofs.Accepted.{step_within}
+use Rattle.table.proofs.Facts.{step_within}
 use Rattle.table.proofs.Scan.{record_all, record_take}
 use Rattle.table.proofs.Rows.{rows_none, rows_more, repeated_more}
 use Rattle.table.specs.Rows.{Rows}
@@ -35,36 +35,33 @@ pub returns-then-not-step_fits : goal.returns-then-not-step_fits
 returns-then-not-step_fits c =
     let a = c.args in
     let j = c.loop-j.j in
-    let x = c.step_at-x.result in
+    let x = c.record_at-x.result in
     let xs = records step_of step_width a.e a.section.now in
     let fails : step_fits a.n x ≡ false = sym c.step_fits.ensures ∙ c.if-not-step_fits.true in
-    let whole : all (step_fits a.n) xs ≡ false = c.loop-j.invariant.1 ∙ record_all step_of step_width a.e a.section.now j c.loop-j-test.true x c.step_at-x.ensures (step_fits a.n) ∙ ap (λ (b : Bool). b && all (step_fits a.n) (drop (j + 1) xs)) fails in
+    let whole : all (step_fits a.n) xs ≡ false = c.loop-j.invariant.1 ∙ record_all step_of step_width a.e a.section.now j c.loop-j-test.true x c.record_at-x.ensures (step_fits a.n) ∙ ap (λ (b : Bool). b && all (step_fits a.n) (drop (j + 1) xs)) fails in
     ap (λ (b : Bool). require StepEnd b then require RepeatedStep (distinct xs)) (sym whole)
 
-pub offset_bounds-given-from : goal.offset_bounds-given-from
-offset_bounds-given-from c = let h = ends c.args.n c.step_at-x.result c.step_fits.result c.requires c.step_fits.ensures c.if-not-step_fits.false in omega (arith, h.0)
+pub offset_bounds-given-x : goal.offset_bounds-given-x
+offset_bounds-given-x c = let h = ends c.args.n c.record_at-x.result c.step_fits.result c.requires c.step_fits.ensures c.if-not-step_fits.false in omega (arith, h.0)
 
-pub bounds-given-from : goal.bounds-given-from
-bounds-given-from c = (ends c.args.n c.step_at-x.result c.step_fits.result c.requires c.step_fits.ensures c.if-not-step_fits.false).0
+pub bounds-given-x : goal.bounds-given-x
+bounds-given-x c = (ends c.args.n c.record_at-x.result c.step_fits.result c.requires c.step_fits.ensures c.if-not-step_fits.false).0
 
-pub offset_bounds-given-from-in-loop-j : goal.offset_bounds-given-from-in-loop-j
-offset_bounds-given-from-in-loop-j c = let h = ends c.args.n c.step_at-x.result c.step_fits.result c.requires c.step_fits.ensures c.if-not-step_fits.false in omega (arith, h.0)
+pub offset_bounds-given-x-in-loop-j : goal.offset_bounds-given-x-in-loop-j
+offset_bounds-given-x-in-loop-j c = let h = ends c.args.n c.record_at-x.result c.step_fits.result c.requires c.step_fits.ensures c.if-not-step_fits.false in omega (arith, h.0)
 
-pub bounds-given-from-in-loop-j : goal.bounds-given-from-in-loop-j
-bounds-given-from-in-loop-j c = (ends c.args.n c.step_at-x.result c.step_fits.result c.requires c.step_fits.ensures c.if-not-step_fits.false).0
-
-pub loop-j-smaller : goal.loop-j-smaller
-loop-j-smaller c = omega arith
+pub bounds-given-x-in-loop-j : goal.bounds-given-x-in-loop-j
+bounds-given-x-in-loop-j c = (ends c.args.n c.record_at-x.result c.step_fits.result c.requires c.step_fits.ensures c.if-not-step_fits.false).0
 
 pub loop-j-preserved : goal.loop-j-preserved
 loop-j-preserved c =
     let a = c.args in
     let l = a.section.now in
     let j = c.loop-j.j in
-    let x = c.step_at-x.result in
+    let x = c.record_at-x.result in
     let xs = records step_of step_width a.e l in
     let h = c.loop-j-test.true in
-    let here = c.step_at-x.ensures in
+    let here = c.record_at-x.ensures in
     let fits : c.step_fits.result ≡ true = c.if-not-step_fits.false in
     let in_range = ends a.n x c.step_fits.result c.requires c.step_fits.ensures fits in
     let g = c.loop-j.invariant.2 in

@@ -1,6 +1,6 @@
 -- `check_steps` meets its contract. The loop's invariant: the steps before j have their bits, and `repeated` says whether one of them repeats another.
 use lib.ListN.{take, drop}
-use Prim.Native.Nat.{◌-◌, ◌≤◌}
+use Prim.Native.Nat.{◌≤◌}
 use mathlib.Core.Path.{◌≡◌}
 use mathlib.Core.Bool.{not}
 use Rattle.table.specs.Table.{records, step_of, step_width}
@@ -14,6 +14,3 @@ invariant-loop-j l =
     × (all (step_fits l.n) (records step_of step_width l.e l.section) ≡ all (step_fits l.n) (drop l.j (records step_of step_width l.e l.section)))
     × Rows l.given (take l.j (records step_of step_width l.e l.section))
     × (l.repeated ≡ not (distinct (take l.j (records step_of step_width l.e l.section))))
-
-abbrev pub decreases-loop-j : goal.decreases-loop-j
-decreases-loop-j l = l.e - l.j

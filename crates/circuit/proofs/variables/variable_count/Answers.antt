@@ -10,7 +10,7 @@ use Rattle.table.specs.declared.counts.Counts.{Counts}
 use Rattle.table.specs.declared.record.Node.{Node}
 use Rattle.table.specs.Table.{table_of, counts_of, records, state_of, step_of, node_of, states_part, steps_part, nodes_part, state_width, step_width, node_width}
 use Rattle.table.proofs.Records.{records-length, records_next, records_done}
-use Rattle.ctl.specs.Rule.{operator_of}
+use Rattle.ctl.specs.Rule.{Operator, operator_of}
 use Rattle.circuit.specs.Variables.{cost_of, costs, variable_formula}
 use Rattle.circuit.proofs.Cost.{cost_most}
 use Rattle.circuit.proofs.variables.variable_count.Goals as goal
@@ -24,12 +24,12 @@ bytes table byte k e = (
 )
 
 -- the nodes from i on cost what the one at i does, and those after it
-one : (n e f : ℕ) (nodes : List ℕ) (i : ℕ) → i < f → (x : Node) → x ≡ node_of (drop (node_width * i) nodes)
-    → costs n e (drop i (records node_of node_width f nodes)) ≡ cost_of n e (operator_of x) + costs n e (drop (i + 1) (records node_of node_width f nodes))
+one : (n e f : ℕ) (nodes : List ℕ) (i : ℕ) → i < f → (x : Node) → x ≡ node_of (drop (node_width * i) nodes) → (o : Operator) → o ≡ operator_of x
+    → costs n e (drop i (records node_of node_width f nodes)) ≡ cost_of n e o + costs n e (drop (i + 1) (records node_of node_width f nodes))
 unfolding costs
-one n e f nodes i h x here =
+one n e f nodes i h x here o is =
     ap (costs n e) (records_next node_of node_width f nodes i h)
-    ∙ (λ j. cost_of n e (operator_of (sym here j)) + costs n e (drop (sym (add-one i) j) (records node_of node_width f nodes)))
+    ∙ (λ j. cost_of n e ((ap operator_of (sym here) ∙ sym is) j) + costs n e (drop (sym (add-one i) j) (records node_of node_width f nodes)))
 
 -- the formula, from the counts and the section that were read
 whole : (table : List ℕ) (k : Counts) → k ≡ counts_of table → (nodes : List ℕ) → nodes ≡ nodes_part table
@@ -44,9 +44,8 @@ whole table k here nodes section =
 small : (c : goal.After-node_cost-sum) → c.node_cost-sum.result ≤ 260355
 small c =
     let k = c.counts_of-c.result in
-    let x = c.node_at-x.result in
     let few = c.loop-i.invariant.0 in
-    omega (arith, cost_most k.states k.steps few.0 few.1 (operator_of x), c.node_cost-sum.ensures x.a x.b)
+    omega (arith, cost_most k.states k.steps few.0 few.1 c.from.result, c.node_cost-sum.ensures)
 
 pub overflow_add-sum : goal.overflow_add-sum
 overflow_add-sum c =
@@ -64,22 +63,19 @@ node_cost-sum-requires c = (c.loop-i.invariant.0.0, c.loop-i.invariant.0.1)
 pub overflow_add-sum-in-loop-i : goal.overflow_add-sum-in-loop-i
 overflow_add-sum-in-loop-i c = omega (arith, small c)
 
-pub loop-i-smaller : goal.loop-i-smaller
-loop-i-smaller c = omega arith
-
 pub loop-i-preserved : goal.loop-i-preserved
 loop-i-preserved c =
     let k = c.counts_of-c.result in
-    let x = c.node_at-x.result in
+    let x = c.record_at-x.result in
     let i = c.loop-i.i in
-    let here = one k.states k.steps k.nodes c.nodes_part-nodes.result.now i c.loop-i-test.true x c.node_at-x.ensures in
-    (c.loop-i.invariant.0, omega arith, omega (arith, small c), omega (arith, c.loop-i.invariant.3, here, c.node_cost-sum.ensures x.a x.b))
+    let here = one k.states k.steps k.nodes c.sections_of.result.nodes.now i c.loop-i-test.true x c.record_at-x.ensures c.from.result c.from.ensures in
+    (c.loop-i.invariant.0, omega arith, omega (arith, small c), omega (arith, c.loop-i.invariant.3, here, c.node_cost-sum.ensures))
 
 pub returns : goal.returns
 unfolding costs
 returns c =
     let k = c.counts_of-c.result in
-    let nodes = c.nodes_part-nodes.result.now in
+    let nodes = c.sections_of.result.nodes.now in
     let none = ap (costs k.states k.steps) (records_done node_of node_width k.nodes nodes c.loop-i.i c.loop-i-test.false) in
-    let all = whole c.args.table.now k c.counts_of-c.ensures nodes c.nodes_part-nodes.ensures in
+    let all = whole c.args.table.now k c.counts_of-c.ensures nodes c.sections_of.ensures.nodes in
     omega (arith, c.loop-i.invariant.3, none, all)

@@ -1,6 +1,6 @@
 -- `variable_count` meets its contract. The loop's invariant: the counts are bytes, the sum so far is small, and with the costs of the
 -- nodes from i on it is the whole.
-use Prim.Native.Nat.{◌+◌, ◌*◌, ◌-◌, ◌≤◌}
+use Prim.Native.Nat.{◌+◌, ◌*◌, ◌≤◌}
 use mathlib.Core.Path.{◌≡◌}
 use lib.ListN.{drop}
 use Rattle.table.specs.Table.{records, node_of, node_width}
@@ -9,10 +9,7 @@ use Rattle.circuit.proofs.variables.variable_count.Given as goal
 
 abbrev pub invariant-loop-i : goal.invariant-loop-i
 invariant-loop-i l =
-    ((l.n ≤ 255) × (l.e ≤ 255) × (l.f ≤ 255))
-    × (l.i ≤ l.f)
+    ((l.n ≤ 255) × (l.e ≤ 255) × (l.i-end ≤ 255))
+    × (l.i ≤ l.i-end)
     × (l.sum ≤ 510 + 260355 * l.i)
-    × (l.e + l.n + costs l.n l.e (records node_of node_width l.f l.nodes) ≡ l.sum + costs l.n l.e (drop l.i (records node_of node_width l.f l.nodes)))
-
-abbrev pub decreases-loop-i : goal.decreases-loop-i
-decreases-loop-i l = l.f - l.i
+    × (l.e + l.n + costs l.n l.e (records node_of node_width l.i-end l.nodes) ≡ l.sum + costs l.n l.e (drop l.i (records node_of node_width l.i-end l.nodes)))

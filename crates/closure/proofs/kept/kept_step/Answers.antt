@@ -22,9 +22,9 @@ unfolding kept_step
 returns c =
     let a = c.args in
     let target = get_or a.targets.now a.s 0 in
-    let steps = c.row_at-x.ensures in
+    let steps = c.step_row-x.ensures in
     λ w. after (add_step a.s (kept_steps a.s target (row_at a.rows.now (step_place a.s)) (row_at a.rows.now kept_place)))
     (added a.rows.now kept_place (c.kept_row.ensures ∙ ap (kept_row a.s target) steps) c.add-first.ensures.value c.add-first.ensures.words_after w)
     (added_step c.add-first.new.words a.s (c.kept_steps.ensures ∙ ap₂ (kept_steps a.s target) steps c.row_at-k.ensures)
-    c.add_step.ensures.value c.add_step.ensures.words_after w)
+    c.add_step.ensures.value c.add_step.ensures.rows_after w)
     c.both.ensures

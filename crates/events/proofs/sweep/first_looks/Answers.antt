@@ -1,7 +1,7 @@
 -- `first_looks` meets its contract: all bits of all words, or the readers of the steps that have changed.
 use Prim.Native.Nat.{ℕ, ◌<◌}
-use mathlib.Core.Path.{◌≡◌, refl, sym, ap, ◌∙◌}
-use mathlib.Core.Bool.{true, true≢false}
+use mathlib.Core.Path.{◌≡◌, ap, ◌∙◌}
+use mathlib.Core.Bool.{true}
 use borrow.Author.Tests.{lt-ltb}
 use lib.ListN.{get_or, replicate, get_or-replicate}
 use Rattle.sets.specs.Member.{member}
@@ -12,21 +12,5 @@ use Rattle.events.proofs.sweep.first_looks.Goals as goal
 all_bits : (k s : ℕ) → k < 33 → s < 32 → member (get_or (replicate 33 4294967295) k 0) s ≡ true
 all_bits k s h l = ap (λ (w : ℕ). member w s) (get_or-replicate {A = ℕ} 33 k 4294967295 0 h) ∙ member-ones 32 s ∙ lt-ltb s 32 l
 
-pub returns-then-fresh : goal.returns-then-fresh
-returns-then-fresh c = record {
-  result_len = refl;
-  s_value = λ e. all_bits;
-  steps_marked = λ e. absurd (true≢false (sym c.if-fresh.true ∙ e));
-}
-
-pub mark_steps-requires : goal.mark_steps-requires
-mark_steps-requires c = (c.requires, refl)
-
-pub returns : goal.returns
-returns c =
-    let m = c.mark_steps in
-    record {
-      result_len = m.auto.looks;
-      s_value = λ e. absurd (true≢false (sym e ∙ c.if-fresh.false));
-      steps_marked = λ e. m.ensures.steps_marked;
-    }
+pub returns-in-None : goal.returns-in-None
+returns-in-None c = rw c.in-None.is all_bits

@@ -1,90 +1,52 @@
--- `analyse` meets its contract: each way out has decided the tests up to its own.
+-- `analyse` meets its contract: the tests in their order, and then the sets.
 use Prim.Native.Nat.{ℕ}
 use mathlib.Core.Path.{◌≡◌, sym, ap, ◌∙◌}
-use mathlib.Core.Bool.{Bool}
 use mathlib.Core.List.{List}
-use borrow.Author.Tests.{eqb-true}
 use lib.ListN.{length}
-use Rattle.table.specs.declared.counts.Counts.{Counts}
-use Rattle.table.specs.declared.refusal.Refusal.TheVariants.{ShortBuffer, ListForm}
-use Rattle.table.specs.declared.refusal.Verdict.{Verdict}
-use Rattle.table.specs.declared.refusal.Verdict.TheVariants.{Accepted}
-use Rattle.table.specs.Table.{table_of, counts_of}
-use Rattle.table.specs.Accept.{list_verdict}
-use Rattle.table.proofs.Accepted.{states_are, steps_are, nodes_are}
-use Rattle.table.proofs.Bools.{and_parts}
-use Rattle.table.proofs.Verdicts.{require_accepted}
-use Rattle.label.specs.declared.analysis.Room.{Room}
-use Rattle.label.specs.Analysis.{room_for, room_fits, analysis_verdict, analysis_at}
-use Rattle.label.proofs.Order.{refused_analysis, table_refused, list_refused, room_refused, room_passed}
+use Rattle.std.proofs.Common.{rules}
+use Rattle.std.specs.Prelude.{Err}
+use Rattle.table.specs.declared.refusal.Refusal.TheVariants.{ShortBuffer}
+use Rattle.table.specs.Verdict.{Verdict}
+use Rattle.table.specs.Table.{table_of}
+use Rattle.ctl.specs.Tests.{is_total}
+use Rattle.label.specs.Analysis.{analysis_at, room_fits, sets_of, total_sets}
+use Rattle.label.proofs.Order.{form_refused, form_table, form_length, room_refused, room_passed}
+use Rattle.label.proofs.Ways.{at_total}
 use Rattle.label.proofs.analysis.analyse.Goals as goal
 
-module _ (table : List ℕ) (k : Counts) (e : k ≡ counts_of table) where
-  -- what the code tested of the list and of the room is what the definitions test
-  list_is : (list : List ℕ) (v : Verdict) → v ≡ list_verdict k.steps list → v ≡ list_verdict (length (table_of table).steps) list
-  list_is list v f = f ∙ ap (λ (m : ℕ). list_verdict m list) (steps_are table k e)
+-- the analysis by its verdict
+by_verdict : (table list : List ℕ) (v w : Verdict) → v ≡ w → analysis_at w (sets_of (table_of table) list) ≡ analysis_at v (sets_of (table_of table) list)
+by_verdict table list v w e = sym (ap (λ (u : Verdict). analysis_at u (sets_of (table_of table) list)) e)
 
-  -- a list that passed the code's test is of the form that the table asks for
-  list_passed : (list : List ℕ) (v : Verdict) → v ≡ list_verdict k.steps list → v ≡ Accepted → list_verdict (length (table_of table).steps) list ≡ Accepted
-  list_passed list v f ok = sym (list_is list v f) ∙ ok
-
-  room_is : (room : Room) (b : Bool) → b ≡ room_for room k.states k.nodes → b ≡ room_fits room (table_of table)
-  room_is room b f = f ∙ (λ j. room_for room (states_are table k e j) (nodes_are table k e j))
-
--- a list of the form is as long as the steps
-list_length : (m : ℕ) (list : List ℕ) → list_verdict m list ≡ Accepted → length list ≡ m
-unfolding list_verdict
-list_length m list e = eqb-true (length list) m (and_parts _ _ (require_accepted ListForm _ e)).0
-
-pub returns-in-Refused : goal.returns-in-Refused
-returns-in-Refused c =
+pub returns-in_err-check_form : goal.returns-in_err-check_form
+returns-in_err-check_form c =
     let a = c.args in
-    let t = a.table.now in
-    let l = a.list.now in
-    let r = c.in-Refused.refusal in
-    refused_analysis (analysis_verdict a.room t l) r (table_of t) l c.refused.result
-    (table_refused a.room t l r (sym c.check_table-first.ensures ∙ c.in-Refused.is)) c.refused.ensures
+    let r = c.in_err-check_form.field-0.0 in
+    let gives : c.from_residual.result ≡ Err r = search rules in
+    let refused = form_refused (room_fits a.room (table_of a.table.now)) a.table.now a.list.now r (sym c.check_form.ensures ∙ c.in_err-check_form.was) in
+    gives ∙ by_verdict a.table.now a.list.now _ (Err r) refused
 
-pub returns-in-Refused-second : goal.returns-in-Refused-second
-returns-in-Refused-second c =
-    let a = c.args in
-    let t = a.table.now in
-    let l = a.list.now in
-    let k = c.counts_of-c in
-    let v = c.check_list-second in
-    let r = c.in-Refused-second.refusal in
-    refused_analysis (analysis_verdict a.room t l) r (table_of t) l c.refused-in-Refused-second.result
-    (list_refused a.room t l (sym c.check_table-first.ensures ∙ c.in_default.is) r
-    (sym (list_is t k.result k.ensures l v.result v.ensures) ∙ c.in-Refused-second.is)) c.refused-in-Refused-second.ensures
+pub new-table-requires : goal.new-table-requires
+new-table-requires c = form_table c.args.table.now c.args.list.now (sym c.check_form.ensures ∙ c.in_ok-check_form.was)
 
 pub returns-then-not-room_fits : goal.returns-then-not-room_fits
 returns-then-not-room_fits c =
     let a = c.args in
-    let t = a.table.now in
-    let l = a.list.now in
-    let k = c.counts_of-c in
-    let short = sym (room_is t k.result k.ensures a.room c.room_fits.result c.room_fits.ensures) ∙ c.if-not-room_fits.true in
-    refused_analysis (analysis_verdict a.room t l) ShortBuffer (table_of t) l c.refused-then-not-room_fits.result
-    (room_refused a.room t l (sym c.check_table-first.ensures ∙ c.in_default.is) (list_passed t k.result k.ensures l c.check_list-second.result c.check_list-second.ensures c.in_default-second.is) short) c.refused-then-not-room_fits.ensures
+    let form = sym c.check_form.ensures ∙ c.in_ok-check_form.was in
+    let room = ap (λ (b : List ℕ). room_fits a.room (table_of b)) (sym c.new-table.ensures) ∙ sym c.room_fits.ensures ∙ c.if-not-room_fits.true in
+    by_verdict a.table.now a.list.now _ (Err ShortBuffer) (room_refused _ a.table.now a.list.now form room)
 
-pub analysed-requires : goal.analysed-requires
-analysed-requires c =
-    let a = c.args in
-    let t = a.table.now in
-    let l = a.list.now in
-    let k = c.counts_of-c in
-    record {
-      table_value = (sym c.check_table-first.ensures ∙ c.in_default.is);
-      list_len = list_length (length (table_of t).steps) l (list_passed t k.result k.ensures l c.check_list-second.result c.check_list-second.ensures c.in_default-second.is);
-      n_value = (states_are t k.result k.ensures, nodes_are t k.result k.ensures);
-    }
+pub total_sets-requires : goal.total_sets-requires
+total_sets-requires c =
+    form_length c.args.table.now c.args.list.now (sym c.check_form.ensures ∙ c.in_ok-check_form.was)
+    ∙ ap (λ (b : List ℕ). length (table_of b).steps) (sym c.new-table.ensures)
 
 pub returns : goal.returns
 returns c =
     let a = c.args in
-    let t = a.table.now in
-    let l = a.list.now in
-    let k = c.counts_of-c in
-    let fits = sym (room_is t k.result k.ensures a.room c.room_fits.result c.room_fits.ensures) ∙ c.if-not-room_fits.false in
-    c.analysed.ensures
-    ∙ sym (ap (λ (v : Verdict). analysis_at v (table_of t) l) (room_passed a.room t l (sym c.check_table-first.ensures ∙ c.in_default.is) (list_passed t k.result k.ensures l c.check_list-second.result c.check_list-second.ensures c.in_default-second.is) fits))
+    let form = sym c.check_form.ensures ∙ c.in_ok-check_form.was in
+    let room = ap (λ (b : List ℕ). room_fits a.room (table_of b)) (sym c.new-table.ensures) ∙ sym c.room_fits.ensures ∙ c.if-not-room_fits.false in
+    c.total_sets.ensures
+    ∙ ap (λ (b : List ℕ). total_sets (table_of b) a.list.now) c.new-table.ensures
+    ∙ at_total (is_total (table_of a.table.now) a.list.now) (sets_of (table_of a.table.now) a.list.now)
+    ∙ by_verdict a.table.now a.list.now _ _ (room_passed _ a.table.now a.list.now form room)

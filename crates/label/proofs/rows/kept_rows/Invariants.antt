@@ -1,14 +1,9 @@
--- `kept_rows` meets its contract. The loop's invariant: the rows are those of the kept steps before j.
-use Prim.Native.Nat.{◌-◌, ◌≤◌}
-use lib.ListN.{length, take}
+-- The loop's invariant: the rows are those of the kept steps before j.
+use lib.ListN.{take}
 use Rattle.table.specs.Table.{table_of}
 use Rattle.table.specs.Rows.{Rows}
 use Rattle.ctl.specs.Labels.{kept_steps}
 use Rattle.label.proofs.rows.kept_rows.Given as goal
 
 abbrev pub invariant-loop-j : goal.invariant-loop-j
-invariant-loop-j l =
-    (l.j ≤ length l.list) × Rows l.rows (kept_steps (take l.j (table_of l.table).steps) (take l.j l.list))
-
-abbrev pub decreases-loop-j : goal.decreases-loop-j
-decreases-loop-j l = length l.list - l.j
+invariant-loop-j l = Rows l.rows (kept_steps (take l.j (table_of l.table.bytes.now).steps) (take l.j l.list))

@@ -10,9 +10,6 @@ use Rattle.propagate.specs.Memory.{memory, ahead_in}
 use Rattle.propagate.specs.Level.{level_at}
 use Rattle.propagate.proofs.level.joined_at.Goals as goal
 
-pub node_row-requires-2 : goal.node_row-requires-2
-node_row-requires-2 c = let p = c.requires in (p.fits.b_below, p.fits.rows_size)
-
 pub returns : goal.returns
 returns c =
     let a = c.args in
@@ -23,9 +20,9 @@ returns c =
     let l = c.level_row in
     let p = c.node_row in
     let q = c.node_row-2 in
-    let up : u.result ≡ ahead_in a.targets.now a.look a.x.every a.below M =
-    u.ensures ∙ ap (turned a.x.every) (h.ensures ∙ ap (ahead_at (λ s. get_or a.targets.now s 0) (λ s. row_at a.rows.now (step_place s)) a.look) t.ensures) in
-    let here : l.result ≡ level_at a.n a.x (suc a.m) M = l.ensures ∙ ap (λ (k : ℕ). level_at a.n a.x k M) (add-one a.m) in
+    let up : u.result ≡ ahead_in a.graph.now.targets a.look a.x.every a.below M =
+    u.ensures ∙ ap (turned a.x.every) (h.ensures ∙ ap (ahead_at (λ s. get_or a.graph.now.targets s 0) (λ s. row_at a.rows.now (step_place s)) a.look) t.ensures) in
+    let here : l.result ≡ level_at a.graph.now.states a.x (suc a.m) M = l.ensures ∙ ap (λ (k : ℕ). level_at a.graph.now.states a.x k M) (add-one a.m) in
     let level = c.mask-level.ensures ∙ ap (masked a.look) here in
     let left = c.mask-a.ensures ∙ ap (masked a.look) p.ensures in
     let right = c.mask-b.ensures ∙ ap (masked a.look) q.ensures in

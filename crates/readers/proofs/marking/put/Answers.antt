@@ -6,4 +6,4 @@ pub returns : goal.returns
 returns c =
     let a = c.args in
     let h = c.requires in
-    record { raised = put_raised a.words.now a.k a.set h; by_index = put_has a.words.now a.k a.set h }
+    record { raised = put_raised a.words.now a.k a.set h; added = put_has a.words.now a.k a.set h }

@@ -3,13 +3,10 @@ use Prim.Native.Nat.{ℕ, ◌<◌}
 use mathlib.Core.Path.{sym, subst}
 use native.Mathlib.Omega.{arith}
 use Rattle.sets.specs.Member.{member, count_of}
-use Rattle.sets.proofs.Walk.{Left, left_first, next_below, left_next, left_fewer}
-use Rattle.readers.proofs.MarkLaws.{raised_none, raised_then, Gone, gone_first, gone_next, gone_last}
+use Rattle.sets.proofs.Walk.{Left, next_below, left_next, left_fewer}
+use Rattle.readers.proofs.MarkLaws.{raised_then, Gone, gone_next, gone_last}
 use Rattle.readers.proofs.marking.raise.Invariants.{Has}
 use Rattle.readers.proofs.marking.raise.Goals as goal
-
-pub loop-left-init : goal.loop-left-init
-loop-left-init c = (left_first _ c.ranges.nodes.fits, raised_none _, gone_first _ _)
 
 -- the next member is below 32
 pub put-requires : goal.put-requires
@@ -31,11 +28,8 @@ loop-left-preserved c =
       raised_then l.invariant.1 put.ensures.raised,
       subst (λ (w : ℕ). Gone a.nodes w (Has put.new.words a.set)) (sym c.remove-left.ensures)
           (gone_next a.nodes l.left low.result (Has l.looks a.set) (Has put.new.words a.set)
-          (λ i p s m. put.ensures.raised.stays i s (p s m)) l.invariant.2 put.ensures.by_index),
+          (λ i p s m. put.ensures.raised.stays i s (p s m)) l.invariant.2 put.ensures.added),
     )
 
-pub returns : goal.returns
-returns c =
-    let l = c.loop-left in
-    let each = gone_last _ l.left _ c.ranges.nodes.fits c.loop-left-test.false l.invariant.2 in
-    record { raised = l.invariant.1; by_index = λ i s m. each i m s }
+pub returns-clause-added : goal.returns-clause-added
+returns-clause-added c = λ i s m. gone_last _ c.loop-left.left _ c.ranges.nodes.fits c.loop-left-test.false c.loop-left.invariant.2 i m s

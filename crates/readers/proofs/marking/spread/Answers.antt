@@ -7,21 +7,18 @@ use native.Mathlib.Omega.{arith}
 use lib.Bits.{bit_or}
 use lib.ListN.{get_or}
 use Rattle.sets.specs.Member.{member, count_of}
-use Rattle.sets.proofs.Walk.{Left, left_first, next_below, left_next, left_fewer}
+use Rattle.sets.proofs.Walk.{Left, next_below, left_next, left_fewer}
 use Rattle.rows.proofs.RowLaws.{or-true}
-use Rattle.readers.proofs.MarkLaws.{Gone, gone_first, gone_next, gone_last}
+use Rattle.readers.proofs.MarkLaws.{Gone, gone_next, gone_last}
 use Rattle.readers.proofs.marking.spread.Invariants.{Spread}
 use Rattle.readers.proofs.marking.spread.Goals as goal
-
-pub loop-left-init : goal.loop-left-init
-loop-left-init c = (left_first _ c.ranges.set.fits, λ t m. m, gone_first _ _)
 
 -- the next member is a state
 pub offset_bounds-readers-t : goal.offset_bounds-readers-t
 offset_bounds-readers-t c = omega (arith, next_below _ c.loop-left.left _ c.loop-left.invariant.0 c.loop-left-test.true c.lowest-t.ensures)
 
 pub bounds-readers-t : goal.bounds-readers-t
-bounds-readers-t c = omega (arith, next_below _ c.loop-left.left _ c.loop-left.invariant.0 c.loop-left-test.true c.lowest-t.ensures, c.requires)
+bounds-readers-t c = omega (arith, next_below _ c.loop-left.left _ c.loop-left.invariant.0 c.loop-left-test.true c.lowest-t.ensures)
 
 pub loop-left-smaller : goal.loop-left-smaller
 loop-left-smaller c =
@@ -44,8 +41,5 @@ loop-left-preserved c =
           (λ t p s m. stays s (p s m)) l.invariant.2 (λ s m. (or-true l.all more s).1 (inr m))),
     )
 
-pub returns : goal.returns
-returns c =
-    let l = c.loop-left in
-    let each = gone_last _ l.left _ c.ranges.set.fits c.loop-left-test.false l.invariant.2 in
-    record { by_index = l.invariant.1; by_index_2 = λ t s m. each t m s }
+pub returns-clause-behind : goal.returns-clause-behind
+returns-clause-behind c = λ t s m. gone_last _ c.loop-left.left _ c.ranges.set.fits c.loop-left-test.false c.loop-left.invariant.2 t m s

@@ -1,5 +1,5 @@
 -- `state_readers` meets its contract: the states before s are where they are read.
-use Prim.Native.Nat.{ℕ, ◌-◌, ◌≤◌, ◌<◌}
+use Prim.Native.Nat.{ℕ, ◌<◌}
 use mathlib.Core.Path.{◌≡◌}
 use mathlib.Core.Bool.{true}
 use lib.ListN.{get_or}
@@ -8,8 +8,4 @@ use Rattle.readers.specs.Readers.{Raised}
 use Rattle.readers.proofs.table_readers.state_readers.Given as goal
 
 abbrev pub invariant-loop-s : goal.invariant-loop-s
-invariant-loop-s l =
-    (l.s ≤ l.n) × Raised l.initial.readers l.readers × ((k : ℕ) → k < l.s → (t : ℕ) → member (get_or l.targets k 0) t ≡ true → member (get_or l.readers t 0) k ≡ true)
-
-abbrev pub decreases-loop-s : goal.decreases-loop-s
-decreases-loop-s l = l.n - l.s
+invariant-loop-s l = Raised l.initial.readers l.readers × ((k : ℕ) → k < l.s → (t : ℕ) → member (get_or l.targets k 0) t ≡ true → member (get_or l.readers t 0) k ≡ true)

@@ -17,11 +17,8 @@ pub loop-left-init : goal.loop-left-init
 loop-left-init c = (left_first _ c.ranges.set.fits, collect_first _ _, collect_first _ _)
 
 -- the next member is a state
-pub overflow_mul-s : goal.overflow_mul-s
-overflow_mul-s c = omega (arith, next_below _ c.loop-left.left _ c.loop-left.invariant.0 c.loop-left-test.true c.lowest-s.ensures)
-
-pub row_at-x-requires : goal.row_at-x-requires
-row_at-x-requires c = omega (arith, next_below _ c.loop-left.left _ c.loop-left.invariant.0 c.loop-left-test.true c.lowest-s.ensures)
+pub step_row-x-requires : goal.step_row-x-requires
+step_row-x-requires c = omega (arith, next_below _ c.loop-left.left _ c.loop-left.invariant.0 c.loop-left-test.true c.lowest-s.ensures)
 
 pub offset_bounds-targets-s : goal.offset_bounds-targets-s
 offset_bounds-targets-s c = omega (arith, next_below _ c.loop-left.left _ c.loop-left.invariant.0 c.loop-left-test.true c.lowest-s.ensures)
@@ -42,7 +39,7 @@ loop-left-preserved c =
     let l = c.loop-left in
     let some = c.loop-left-test.true in
     let low = c.lowest-s in
-    let x = c.row_at-x in
+    let x = c.step_row-x in
     let met = is_met a.targets.now a.rows.now a.end in
     let lost = is_lost a.rows.now a.end in
     let left = c.remove-left.ensures in (

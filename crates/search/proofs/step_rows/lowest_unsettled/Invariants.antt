@@ -1,5 +1,5 @@
 -- `lowest_unsettled` meets its contract. The loop's invariant: no step before j is unsettled.
-use Prim.Native.Nat.{ℕ, ◌-◌, ◌≤◌, ◌<◌}
+use Prim.Native.Nat.{ℕ, ◌<◌}
 use mathlib.Core.Path.{◌≡◌}
 use mathlib.Core.Bool.{false}
 use lib.ListN.{length}
@@ -8,7 +8,4 @@ use Rattle.search.specs.StepRows.{is_unsettled}
 use Rattle.search.proofs.step_rows.lowest_unsettled.Given as goal
 
 abbrev pub invariant-loop-j : goal.invariant-loop-j
-invariant-loop-j l = (l.j ≤ l.e) × (l.e ≡ length (table_of l.table).steps) × ((i : ℕ) → i < l.j → is_unsettled (table_of l.table) l.rows i ≡ false)
-
-abbrev pub decreases-loop-j : goal.decreases-loop-j
-decreases-loop-j l = l.e - l.j
+invariant-loop-j l = (l.e ≡ length (table_of l.table.bytes.now).steps) × ((i : ℕ) → i < l.j → is_unsettled (table_of l.table.bytes.now) l.rows i ≡ false)

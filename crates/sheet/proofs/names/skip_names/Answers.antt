@@ -1,62 +1,25 @@
--- `skip_names` meets its contract. The loop's invariant: the names stand at the start exactly when those from i on stand at the place.
-use Prim.Native.Nat.{ℕ, ◌+◌, zero-le}
-use mathlib.Core.Path.{refl, sym, ap, ap₂, ◌∙◌}
-use mathlib.Core.List.{List}
-use native.Mathlib.Omega.{arith}
-use borrow.Author.Tests.{ne_eqb}
-use lib.ListN.{get_or, drop, drop_of_length-le}
-use Rattle.table.proofs.Scan.{drop_next}
-use Rattle.sheet.specs.Parse.{exactly}
-use Rattle.sheet.proofs.Exact.{exactly_step, exactly_off, exactly_short}
+-- `skip_names` meets its contract: a text begins with these bytes exactly when it is theirs and what is behind them.
+use Prim.Native.Nat.{ℕ}
+use mathlib.Core.Path.{◌≡◌, refl, sym, ap, ◌∙◌}
+use mathlib.Core.Logic.{◌≢◌}
+use mathlib.Core.List.{List, ◌++◌}
+use Rattle.std.proofs.Common.{Bor, Option, None, Some, MatchOption}
+use Rattle.std.proofs.lemmas.Bool.Decides.{Decides-eqb}
+use Rattle.std.proofs.lemmas.Slice.Eq.{strip_prefix_is}
+use Rattle.sheet.specs.Parse.{Parsed, got, broken, exactly}
+use Rattle.sheet.specs.Reading.{passing}
+use Rattle.sheet.proofs.Exact.{exact_bytes}
 use Rattle.sheet.proofs.names.skip_names.Goals as goal
 
-pub loop-i-init : goal.loop-i-init
-loop-i-init c = (zero-le, refl)
-
-pub returns-then-text-place : goal.returns-then-text-place
-returns-then-text-place c =
-    let a = c.args in
-    let l = a.text.now in
-    let n = a.names.now in
-    let i = c.loop-i.i in
-    sym (c.loop-i.invariant.1 ∙ ap₂ exactly (drop_next n i c.loop-i-test.true) (drop_of_length-le l {i = c.loop-i.place} c.if-text-place.true) ∙ exactly_short (get_or n i 0) (drop (i + 1) n))
-
-pub bounds-text-place : goal.bounds-text-place
-bounds-text-place c = omega arith
-
-pub bounds-names-i : goal.bounds-names-i
-bounds-names-i c = omega arith
-
-pub returns-then-text-place-2 : goal.returns-then-text-place-2
-returns-then-text-place-2 c =
-    let a = c.args in
-    let l = a.text.now in
-    let n = a.names.now in
-    let i = c.loop-i.i in
-    let p = c.loop-i.place in
-    sym (c.loop-i.invariant.1 ∙ ap₂ exactly (drop_next n i c.loop-i-test.true) (drop_next l p c.if-text-place.false) ∙ exactly_off (get_or n i 0) (drop (i + 1) n) (get_or l p 0) (drop (p + 1) l) (ne_eqb _ _ c.if-text-place-2.true))
-
-pub overflow_add-place : goal.overflow_add-place
-overflow_add-place c = omega arith
-
-pub overflow_add-i : goal.overflow_add-i
-overflow_add-i c = omega arith
-
-pub loop-i-smaller : goal.loop-i-smaller
-loop-i-smaller c = omega arith
-
-pub loop-i-preserved : goal.loop-i-preserved
-loop-i-preserved c =
-    let a = c.args in
-    let l = a.text.now in
-    let n = a.names.now in
-    let i = c.loop-i.i in
-    let p = c.loop-i.place in
-    (omega arith, c.loop-i.invariant.1 ∙ ap₂ exactly (drop_next n i c.loop-i-test.true) (drop_next l p c.if-text-place.false) ∙ exactly_step (get_or n i 0) (drop (i + 1) n) (get_or l p 0) (drop (p + 1) l) (sym c.if-text-place-2.false))
+stripped : (text names : List ℕ) (r : Option (Bor (List ℕ))) → MatchOption r ((rest : List ℕ) → text ≢ names ++ rest) (λ x. text ≡ names ++ x.now) → passing tt r ≡ exactly names text
+stripped text names (Some x) e = sym (ap (exactly names) e ∙ (exact_bytes names).complete tt x.now tt)
+stripped text names None none = go (exactly names text) refl
+  where
+    go : (p : Parsed (Unit {0})) → exactly names text ≡ p → broken ≡ exactly names text
+    go (got u rest) e = absurd (none rest ((exact_bytes names).sound text u rest e).1)
+    go broken e = sym e
 
 pub returns : goal.returns
-unfolding exactly
 returns c =
     let a = c.args in
-    let p = c.loop-i.place in
-    sym (c.loop-i.invariant.1 ∙ ap (λ (n : List ℕ). exactly n (drop p a.text.now)) (drop_of_length-le a.names.now {i = c.loop-i.i} c.loop-i-test.false))
+    stripped a.text.now a.names.now c.strip_prefix.result (strip_prefix_is Decides-eqb a.text.now a.names.now c.strip_prefix.result c.strip_prefix.ensures.cases)

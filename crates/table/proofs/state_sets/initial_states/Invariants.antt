@@ -1,5 +1,5 @@
 -- `initial_states` meets its contract: the set of the states below s is collected, one after the other.
-use Prim.Native.Nat.{◌*◌, ◌-◌, ◌≤◌}
+use Prim.Native.Nat.{◌*◌}
 use mathlib.Core.Path.{◌≡◌}
 use lib.Dec.{eqb}
 use lib.ListN.{drop}
@@ -8,7 +8,4 @@ use Rattle.table.specs.Table.{state_of, state_width}
 use Rattle.table.proofs.state_sets.initial_states.Given as goal
 
 abbrev pub invariant-loop-s : goal.invariant-loop-s
-invariant-loop-s l = (l.s ≤ l.n) × (l.set ≡ set_of l.s (λ t. eqb (state_of (drop (state_width * t) l.states)).initial 1))
-
-abbrev pub decreases-loop-s : goal.decreases-loop-s
-decreases-loop-s l = l.n - l.s
+invariant-loop-s l = l.set ≡ set_of l.s (λ t. eqb (state_of (drop (state_width * t) l.states)).initial 1)

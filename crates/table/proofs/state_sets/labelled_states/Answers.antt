@@ -1,6 +1,6 @@
 -- `labelled_states` meets its contract: the set of the states below s is collected, one after the other.
 use lib.Seq.{get_or-drop}
-use Prim.Native.Nat.{ℕ, ◌+◌, ◌*◌, ◌^◌, ◌<◌, zero-le}
+use Prim.Native.Nat.{ℕ, ◌+◌, ◌*◌, ◌^◌, ◌<◌}
 use mathlib.Core.Path.{◌≡◌, refl, ap, ◌∙◌}
 use mathlib.Core.Bool.{not}
 use mathlib.Core.List.{List}
@@ -25,35 +25,29 @@ label_small l s byte x e =
 
 pub loop-s-init : goal.loop-s-init
 unfolding set_of
-loop-s-init c = (zero-le, refl)
+loop-s-init c = refl
 
 pub overflow_cast-x : goal.overflow_cast-x
 overflow_cast-x c =
     let l = c.args.states.now in
-    let byte = c.shared_slice_known-1.given in
-    omega (arith, label_small l c.loop-s.s byte c.state_at-x.result c.state_at-x.ensures)
-
-pub loop-s-smaller : goal.loop-s-smaller
-loop-s-smaller c = omega arith
+    let byte = c.type_inv.states in
+    omega (arith, label_small l c.loop-s.s byte c.record_at-x.result c.record_at-x.ensures)
 
 pub loop-s-preserved : goal.loop-s-preserved
 loop-s-preserved c =
     let a = c.args in
-    let byte = c.shared_slice_known-1.given in
+    let byte = c.type_inv.states in
     let only = c.insert-only in
     let loop = c.loop-s in
-    let x = c.state_at-x in
+    let x = c.record_at-x in
     let small : x.result.label < 2 ^ 32 = omega (arith, label_small a.states.now loop.s byte x.result x.ensures) in
-    let shared = c.intersection in (
-      omega arith,
-      c.insert_if-set.ensures
-          ∙ collect loop.s (λ t. member (state_of (drop (state_width * t) a.states.now)).label a.p) loop.set (not (eqb shared.result 0))
-          (omega arith) loop.invariant.1
-          (meets_only x.result.label a.p small only.result only.ensures shared.result shared.ensures
-          ∙ ap (λ (x : State). member x.label a.p) x.ensures),
-    )
+    let shared = c.intersection in
+    c.insert_if-set.ensures
+    ∙ collect loop.s (λ t. member (state_of (drop (state_width * t) a.states.now)).label a.p) loop.set (not (eqb shared.result 0))
+    (omega arith) loop.invariant
+    (meets_only x.result.label a.p small only.result only.ensures shared.result shared.ensures ∙ ap (λ (x : State). member x.label a.p) x.ensures)
 
 pub returns : goal.returns
 returns c =
     let a = c.args in
-    c.loop-s.invariant.1 ∙ ap (λ (k : ℕ). set_of k (λ t. member (state_of (drop (state_width * t) a.states.now)).label a.p)) (omega arith)
+    c.loop-s.invariant ∙ ap (λ (k : ℕ). set_of k (λ t. member (state_of (drop (state_width * t) a.states.now)).label a.p)) (omega arith)

@@ -2,22 +2,6 @@
 use Rattle.search.specs.Fine.{step_literals}
 use Rattle.walk.proofs.reach.reach.Goals as goal
 
-pub close-closed-requires : goal.close-closed-requires
-close-closed-requires c =
-    record {
-      setting = c.requires.setting;
-      sized = c.requires.sized;
-      founded = c.requires.founded;
-      rest_but = c.requires.rest_but;
-    }
-
-pub assess-requires : goal.assess-requires
-assess-requires c =
-    record {
-      table_value = (c.requires.setting.accepted, c.close-closed.ensures.closed.sized.rows_size);
-      find_room = c.requires.find_room;
-    }
-
 pub returns : goal.returns
 returns c =
     record {

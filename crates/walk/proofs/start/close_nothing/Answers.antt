@@ -1,39 +1,26 @@
 -- `close_nothing` meets its contract: rows and words of 0 lie between nothing and its closure.
-use Prim.Native.Nat.{ℕ, ◌≤◌}
+use Prim.Native.Nat.{ℕ}
 use mathlib.Core.Path.{◌≡◌}
-use mathlib.Core.Bool.{true≢false}
 use mathlib.Core.List.{List, []}
 use lib.ListN.{length, replicate}
-use Rattle.table.specs.Table.{Table, table_of}
-use Rattle.closure.specs.Knowledge.{Sized, level_total}
+use Rattle.std.proofs.Common.{rules}
+use Rattle.table.specs.Table.{Table}
 use Rattle.propagate.specs.Memory.{memory}
 use Rattle.closure.specs.Closes.{Between}
-use Rattle.walk.proofs.Zeroed.{none_between, none_sized}
+use Rattle.events.specs.NetTable.{table_in}
+use Rattle.walk.proofs.Zeroed.{none_between}
 use Rattle.walk.proofs.start.close_nothing.Goals as goal
 
 -- rows and words of 0
-module _ (T : Table) (rows words : List ℕ) (k : ℕ) (no_step : rows ≡ replicate 130 0) (no-level : words ≡ replicate k 0) where
-  nothing_sized : level_total T ≤ k → Sized T (memory rows words)
-  nothing_sized size = rw (no_step, no-level) (none_sized T k size)
+nothing_between : (T : Table) (rows words : List ℕ) (k : ℕ) → rows ≡ replicate 130 0 → words ≡ replicate k 0 → Between T [] (memory rows words)
+nothing_between T rows words k no_step no_level = rw (no_step, no_level) (none_between T k)
 
-  nothing_between : Between T [] (memory rows words)
-  nothing_between = rw (no_step, no-level) (none_between T k)
+pub close-requires-clause-founded : goal.close-requires-clause-founded
+close-requires-clause-founded c =
+    let zeroed : c.fill.new.self ≡ replicate (length c.args.words.now) 0 = search rules in
+    ([], (nothing_between (table_in c.args.net.now) _ _ _ c.requires.rows_value zeroed).below)
 
-pub close-requires : goal.close-requires
-close-requires c =
-    let T = table_of c.args.table.now in
-    let k = length c.args.words.now in record {
-      setting = c.requires.setting;
-      sized = nothing_sized T _ _ k c.requires.rows_value c.zero.ensures c.requires.words_room;
-      founded = ([], (nothing_between T _ _ k c.requires.rows_value c.zero.ensures).below);
-      rest_but = λ e. absurd (true≢false e);
-    }
-
-pub returns : goal.returns
-returns c =
-    let between = nothing_between (table_of c.args.table.now) _ _ (length c.args.words.now) c.requires.rows_value c.zero.ensures in
-    record {
-      sized = c.close.ensures.closed.sized;
-      closes = c.close.ensures.closed.closes [] between;
-      resting = c.close.ensures.resting;
-    }
+pub returns-clause-closes : goal.returns-clause-closes
+returns-clause-closes c =
+    let zeroed : c.fill.new.self ≡ replicate (length c.args.words.now) 0 = search rules in
+    c.close.ensures.closed.closes [] (nothing_between (table_in c.args.net.now) _ _ _ c.requires.rows_value zeroed)

@@ -1,0 +1,42 @@
+// What propagation is told of a table, worked out once before a search.
+ghost use Rattle.std.specs.Prelude.{◌≡◌};
+ghost use Rattle.events.specs.Setting.{Setting};
+
+use closure::level_bases;
+use propagate::Graph;
+use readers::readers_of;
+use table::{Accepted, initial_states, target_sets};
+
+// The table, its states and steps, its initial states, where the words of the levels of each node lie and how many there are, and who reads what.
+#[derive(Drop)]
+pub struct Net<'a> {
+    pub table: Accepted<'a>,
+    pub graph: Graph,
+    pub initial: u32,
+    pub bases: [usize; 32],
+    pub levels: usize,
+    pub readers: [u32; 65],
+    pub ghost setting: { Setting table.bytes.now graph initial bases levels readers },
+}
+
+impl<'a> Net<'a> {
+    pub fn new(table: Accepted<'a>) -> Net<'a>
+        ensures { result.table.bytes.now ≡ table.entry.bytes.now }
+    {
+        let states = table.state_count();
+        let targets = target_sets(&table);
+        let initial = initial_states(table.states, states);
+        let readers = readers_of(&table, &targets);
+        let b = level_bases(&table);
+        let graph = Graph { targets, states };
+        let bases = b.at;
+        Net {
+            table,
+            graph,
+            initial,
+            bases,
+            levels: b.total,
+            readers,
+        }
+    }
+}

@@ -1,0 +1,25 @@
+// The room of a lent buffer.
+ghost use Rattle.std.specs.Prelude.{◌≡◌};
+ghost use Rattle.table.specs.Table.{table_of};
+ghost use Rattle.label.specs.Analysis.{room_fits};
+
+use table::Accepted;
+
+// What a lent buffer must have an entry for, and how many it has. A closure that counts the entries would say no more, and its clauses would stand in
+// the contract of the analysis.
+#[derive(Clone, Copy)]
+pub enum Room {
+    Any,
+    Nodes(usize),
+    States(usize),
+}
+
+pub fn room_fits(room: Room, table: &Accepted<'_>) -> bool
+    ensures { result ≡ room_fits room (table_of table.now.bytes.now) }
+{
+    match room {
+        Room::Any => true,
+        Room::Nodes(k) => table.node_count() <= k,
+        Room::States(k) => table.state_count() <= k,
+    }
+}

@@ -1,0 +1,6 @@
+-- `state_count` meets its contract: the count is that of the records.
+use Rattle.table.proofs.Facts.{states_are}
+use Rattle.table.proofs.accepted.Accepted.state_count.Goals as goal
+
+pub returns : goal.returns
+returns c = states_are c.args.self.now.bytes.now c.args.self.now.counts c.args.self.now.counted

@@ -1,0 +1,14 @@
+-- `step` meets its contract: the section's record is the table's, at any number.
+use Prim.Native.Nat.{◌*◌}
+use mathlib.Core.List.{List}
+use mathlib.Core.Path.{ap, ◌∙◌}
+use Prim.Native.Nat.{ℕ}
+use lib.ListN.{drop}
+use Rattle.table.specs.Table.{record_width, step_of}
+use Rattle.table.proofs.Facts.{step_anywhere}
+use Rattle.table.proofs.accepted.Accepted.step.Goals as goal
+
+pub returns : goal.returns
+returns c =
+    let t = c.args.self.now in
+    c.record_at.ensures ∙ ap (λ (l : List ℕ). step_of (drop (record_width * c.args.j) l)) t.steps_are ∙ step_anywhere t.bytes.now c.args.j

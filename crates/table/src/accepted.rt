@@ -1,0 +1,80 @@
+// A packed table that passes every test, cut into its sections once.
+ghost use Rattle.std.specs.Prelude.{◌≡◌, ℕ, ◌<◌, Ok};
+ghost use Rattle.table.specs.Table.{counts_of, states_part, steps_part, nodes_part, table_of, step_at};
+ghost use Rattle.table.specs.Accept.{table_verdict};
+
+use crate::counts::{Counts, counts_of};
+use crate::record::{Node, State, Step, record_at};
+use crate::section::sections_of;
+
+// Whoever is handed one need not ask again whether the table is accepted.
+#[derive(Clone, Copy)]
+pub struct Accepted<'a> {
+    pub bytes: &'a [u8],
+    pub counts: Counts,
+    pub states: &'a [u8],
+    pub steps: &'a [u8],
+    pub nodes: &'a [u8],
+    pub ghost passes: { table_verdict bytes.now ≡ Ok tt },
+    pub ghost counted: { counts ≡ counts_of bytes.now },
+    pub ghost states_are: { states.now ≡ states_part bytes.now },
+    pub ghost steps_are: { steps.now ≡ steps_part bytes.now },
+    pub ghost nodes_are: { nodes.now ≡ nodes_part bytes.now },
+    pub ghost prices_are_bytes: { (j : ℕ) → (step_at (table_of bytes.now) j).price < 256 },
+}
+
+impl<'a> Accepted<'a> {
+    ghost use Rattle.std.specs.Prelude.{length};
+    ghost use Rattle.table.specs.Table.{table_of, state_at, step_at, node_at};
+
+    pub fn new(bytes: &'a [u8]) -> Accepted<'a>
+        requires { table_verdict bytes.now ≡ Ok tt }
+        ensures { result.bytes.now ≡ bytes.now }
+    {
+        let sections = sections_of(bytes);
+        Accepted {
+            bytes,
+            counts: counts_of(bytes),
+            states: sections.states,
+            steps: sections.steps,
+            nodes: sections.nodes,
+        }
+    }
+
+    pub fn state_count(&self) -> usize
+        ensures { result ≡ length (table_of self.now.bytes.now).states }
+    {
+        self.counts.states
+    }
+
+    pub fn step_count(&self) -> usize
+        ensures { result ≡ length (table_of self.now.bytes.now).steps }
+    {
+        self.counts.steps
+    }
+
+    pub fn node_count(&self) -> usize
+        ensures { result ≡ length (table_of self.now.bytes.now).nodes }
+    {
+        self.counts.nodes
+    }
+
+    // A number past the last reads as zeros, here and below.
+    pub fn state(&self, s: usize) -> State
+        ensures { result ≡ state_at (table_of self.now.bytes.now) s }
+    {
+        record_at(self.states, s)
+    }
+
+    pub fn step(&self, j: usize) -> Step
+        ensures { result ≡ step_at (table_of self.now.bytes.now) j }
+    {
+        record_at(self.steps, j)
+    }
+
+    pub fn node(&self, i: usize) -> Node
+        ensures { result ≡ node_at (table_of self.now.bytes.now) i }
+    {
+        record_at(self.nodes, i)
+    }
+}

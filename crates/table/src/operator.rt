@@ -1,0 +1,76 @@
+// What a node says of its children: its kind read as an operator.
+ghost use Rattle.std.specs.Prelude.{◌≡◌};
+ghost use Rattle.table.specs.Second.{second_of};
+ghost use Rattle.table.specs.Operator.{quantifier_at, operator_of};
+
+use crate::record::Node;
+
+// What a fixed-point kind says along a path: a V b, a U b, F b or G b. Each has levels, and differs in what a level joins.
+#[derive(Clone, Copy)]
+pub enum Family {
+    Release,
+    Until,
+    Eventually,
+    Always,
+}
+
+// The path quantifier: on every path, or on some path.
+#[derive(Clone, Copy, PartialEq, Eq)]
+pub enum Quantifier {
+    Every,
+    Some,
+}
+
+// The children stand by their numbers. A fixed point has two: level 0 is the set of the second. The one child of F and G stands in both places.
+#[derive(Clone, Copy)]
+pub enum Operator {
+    Constant(bool),
+    Atom(usize),
+    Negation(usize),
+    Conjunction(usize, usize),
+    Disjunction(usize, usize),
+    Next(Quantifier, usize),
+    Fixpoint(Family, Quantifier, usize, usize),
+}
+
+impl From<Node> for Operator {
+    ghost from_gives = { λ x operator. operator ≡ operator_of x };
+
+    // A kind above 15, which no accepted table has, reads as false.
+    fn from(x: Node) -> Operator {
+        let (a, b) = (x.a, x.b);
+        let q = quantifier_of(x.kind);
+        match x.kind {
+            1 => Operator::Constant(true),
+            2 => Operator::Atom(a),
+            3 => Operator::Negation(a),
+            4 => Operator::Conjunction(a, b),
+            5 => Operator::Disjunction(a, b),
+            6 | 7 => Operator::Next(q, a),
+            8 | 9 => Operator::Fixpoint(Family::Release, q, a, b),
+            10 | 11 => Operator::Fixpoint(Family::Until, q, a, b),
+            12 | 13 => Operator::Fixpoint(Family::Eventually, q, a, a),
+            14 | 15 => Operator::Fixpoint(Family::Always, q, a, a),
+            _ => Operator::Constant(false),
+        }
+    }
+}
+
+// From kind 6 on, an even kind is of every path and an odd one of some path.
+fn quantifier_of(kind: usize) -> Quantifier
+    ensures { result ≡ quantifier_at kind }
+{
+    if kind % 2 == 0 {
+        Quantifier::Every
+    } else {
+        Quantifier::Some
+    }
+}
+
+// The child whose set is level 0: of kinds 12 to 15, which have one child, that one. By the number: a match on the operator has six arms, and three of
+// them have no second child to give.
+pub fn second_child(x: Node) -> usize
+    ensures { result ≡ second_of x }
+{
+    if x.kind < 12 { x.b } else { x.a }
+}
