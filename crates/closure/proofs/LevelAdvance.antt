@@ -8,6 +8,8 @@ use mathlib.Core.List.{List}
 use borrow.Author.Tests.{lt-ltb, ltb-true}
 use lib.Dec.{ltb}
 use lib.ListN.{length, get_or}
+use Rattle.std.specs.Prelude.{Some}
+use Rattle.std.proofs.lemmas.Option.{none-some}
 use Rattle.sets.specs.Member.{member, set_of}
 use Rattle.sets.proofs.SetOf.{in_set}
 use Rattle.table.specs.declared.operator.Family.{Family}
@@ -19,10 +21,11 @@ use Rattle.circuit.specs.Variables.{Var, ahead, level, value}
 use Rattle.rows.specs.declared.row.Row.{Row}
 use Rattle.rows.specs.declared.joined.Joined.{Joined}
 use Rattle.propagate.specs.declared.level.Fixpoint.{Fixpoint}
+use Rattle.propagate.specs.declared.levels.LevelRows.{LevelRows}
 use Rattle.propagate.specs.declared.levels.Seen.{Seen}
 use Rattle.rows.specs.Rules.{masked, join_of, inner_of}
 use Rattle.closure.specs.Dual.{is_every}
-use Rattle.rows.specs.Words.{SmallRow, step_place}
+use Rattle.rows.specs.Words.{SmallRow, step_place, quiet}
 use Rattle.closure.specs.Knowledge.{Knowledge, knowledge, Sized, level_base, second_child}
 use Rattle.propagate.specs.Memory.{Memory, node_place, Visit, node_row, ahead_in}
 use Rattle.closure.specs.Rest.{join_level, inner_level, RestLevel}
@@ -30,7 +33,7 @@ use Rattle.closure.specs.Inside.{RowIn}
 use Rattle.closure.specs.Advance.{ForcedBy}
 use Rattle.propagate.specs.Level.{fixpoint_at, add_level, level_step, alike, nothing_seen, level_visit, levels_from}
 use Rattle.propagate.proofs.Visits.{visit_alike, visit_other}
-use Rattle.closure.proofs.Alike.{alike_parts}
+use Rattle.closure.proofs.Alike.{alike_parts, where_quiet}
 use Rattle.closure.proofs.RulesSmall.{SmallJoined, join_small}
 use Rattle.closure.proofs.JoinClear.{join_clear}
 use Rattle.closure.proofs.RestJoin.{joined_more}
@@ -52,7 +55,7 @@ use Rattle.closure.proofs.InsideParts.{fixpoint_below}
 record SeenRest (T : Table) (look : ℕ) (fam : Family) (q : Quantifier) (a b : ℕ) (v : Seen) (K : Knowledge) : Type 0 where
   inside : OfStates T v.look
   has : (s : ℕ) → s < length T.states → member look s ≡ true → member v.look s ≡ true
-  rest : v.quiet ≡ true → (s : ℕ) → s < length T.states → member look s ≡ true → RestLevel T K fam q a b v.level v.below s
+  rest : (r : LevelRows) → v.quiet ≡ Some r → (s : ℕ) → s < length T.states → member look s ≡ true → RestLevel T K fam q a b r.level r.below s
 
 -- where something was added all states are looked at, which are of the table and have those of any set
 module _ (T : Table) where
@@ -208,10 +211,8 @@ module _ (T : Table) (wf : Wellformed T) (targets : List ℕ) (ends : (s : ℕ) 
         where
           go : (like : Bool) → alike v above under ≡ like → Visits (level_visit targets (length T.states) fix m v M)
           go true e =
-              let p = alike_parts v above under e in
               subst Visits (sym (visit_alike targets (length T.states) fix m v M e)) (
-                advance_so T (λ z s l g. subst (λ (r : Row). RestLevel T (knowledge T M) fam q a b r under s) p.1
-                    (subst (λ (r : Row). RestLevel T (knowledge T M) fam q a b v.level r s) p.2 (seen.rest p.0 s l g)))
+                advance_so T (λ z s l g. seen.rest _ (alike_parts v above under e) s l g)
                     (advance_failing T false M sized (λ f. absurd (false≢true f))),
                 seen,
               )
@@ -223,8 +224,10 @@ module _ (T : Table) (wf : Wellformed T) (targets : List ℕ) (ends : (s : ℕ) 
                 record {
                   inside = after_inside T report.changed v.look seen.inside;
                   has = λ s l g. after_has T report.changed v.look wf s l (seen.has s l g);
-                  rest = quiet_still {Q = λ K. (s : ℕ) → s < length T.states → member look s ≡ true → RestLevel T K fam q a b above under s}
-                      (advance_so T (λ z s l g. z s l (seen.has s l g)) done);
+                  rest = λ r e. where_quiet (λ r. (s : ℕ) → s < length T.states → member look s ≡ true → RestLevel T (knowledge T (level_step targets (length T.states) fix m v.look M).memory) fam q a b r.level r.below s)
+                      (quiet report) (record { level = above; below = under }) r e
+                      (quiet_still {Q = λ K. (s : ℕ) → s < length T.states → member look s ≡ true → RestLevel T K fam q a b above under s}
+                      (advance_so T (λ z s l g. z s l (seen.has s l g)) done));
                 },
               )
 
@@ -241,7 +244,7 @@ levels_advance T wf targets ends look inside i h fam q a b op base e down M size
     (λ m K. (s : ℕ) → s < length T.states → member look s ≡ true → RestLevel T K fam q a b (K.levels i (suc m)) (K.levels i m) s)
     (SeenRest T look fam q a b)
     (length T.states) one (nothing_seen look) M sized
-    (record { inside = inside; has = λ s l g. g; rest = λ f. absurd (false≢true f) })).0
+    (record { inside = inside; has = λ s l g. g; rest = λ r f. absurd (none-some r f) })).0
   where
     Visits : (a b base m : ℕ) (v : Seen) → Memory → Type 0
     Visits a b base m v N =

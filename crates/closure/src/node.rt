@@ -26,7 +26,8 @@ fn constant_set(n: usize, holds: bool) -> u32
     if holds { sets::below(n) } else { 0 }
 }
 
-// Of a table only the section of its states is read, so any bytes do.
+// Of a table only the section of its states is read, so any bytes do. That the words have room for the levels is asked: they are lent, and change hands at
+// each call.
 pub fn node_step(
     table: &[u8],
     graph: &Graph,

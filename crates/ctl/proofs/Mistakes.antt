@@ -16,7 +16,7 @@ use Rattle.table.proofs.Verdicts.{refused}
 use Rattle.ctl.specs.Price.{sum_below, list_price}
 use Rattle.ctl.specs.Meaning.{Formula, ax, Fullpath, Released, UntilAlong, Holds}
 use Rattle.ctl.specs.Rule.{every, bottom_up, root_index}
-use Rattle.ctl.specs.Kept.{Initial, Labelled, IsList, Next, Kept, Repair, NarrowRepair}
+use Rattle.ctl.specs.Kept.{Labelled, IsList, Next, Kept, Repair, NarrowRepair}
 use Rattle.ctl.specs.Levels.{tabulate, iterate, next_in, level, levels}
 use Rattle.ctl.specs.Labels.{kept_steps, ends_from, is_kept, label_of, label, marked}
 use Rattle.ctl.specs.Reached.{is_initial_kept, reached_set, strike}
@@ -125,10 +125,6 @@ below_two : (P : ℕ → Type 0) → P 0 → P 1 → (s : ℕ) → s < 2 → P s
 below_two P p q zero h = p
 below_two P p q (suc zero) h = q
 below_two P p q (suc (suc s)) h = absurd (omega arith)
-
--- state 0 is the one initial state
-pub loops_initial : (s : ℕ) → Initial loops s → s ≡ 0
-loops_initial s i = below_two (λ s. (state_at loops s).initial ≡ 1 → s ≡ 0) (λ e. refl) (λ e. absurd (omega arith)) s i.0 i.1
 
 -- the table has what every accepted table has
 loops_wellformed : Wellformed loops

@@ -5,7 +5,7 @@ use mathlib.Core.Bool.{Bool, true, false, cond}
 use lib.Dec.{ltb}
 use lib.ListN.{get_or-eq_default}
 use Rattle.table.specs.declared.record.Node.{Node}
-use Rattle.table.specs.Second.{second_of}
+use Rattle.table.specs.Family.{second_of}
 use Rattle.ctl.specs.Rule.{constant, operators, operator_of}
 
 -- past the last kind it is the constant false

@@ -1,8 +1,7 @@
 -- Repair, decided by labels, in both senses: the judge's tests 11, 12, 16 and 13, and its verdict on any bytes.
 use Rattle.std.specs.Prelude.{ℕ, Bool, not, ◌&&◌, ◌||◌, List, length}
 use Rattle.table.specs.declared.refusal.Refusal.TheVariants.{NotTotal, NoInitialKept, RootFails, UnreachedStep}
-use Rattle.table.specs.Verdict.{Verdict}
-use Rattle.table.specs.Verdict.{require, ◌then◌}
+use Rattle.table.specs.Verdict.{Verdict, require, ◌then◌}
 use Rattle.table.specs.Table.{Table, table_of}
 use Rattle.table.specs.Accept.{all, any, table_verdict, list_verdict}
 use Rattle.ctl.specs.Rule.{root_index}

@@ -38,7 +38,7 @@ module _ (net : Net) where
 
   -- the levels of a fixed point end in the words
   pub levels_in : (i : ℕ) → i < length (table_in net).nodes → (x : Node) → x ≡ node_at (table_in net) i → (family : Family) (q : Quantifier) (a b : ℕ)
-      → operator_of x ≡ fixpoint family q a b → get_or net.bases i 0 + 2 * (net.graph.states - 1) ≤ level_total (table_in net)
+      → operator_of x ≡ fixpoint family q a b → get_or net.bases.at i 0 + 2 * (net.graph.states - 1) ≤ level_total (table_in net)
   levels_in i h x e family q a b is =
-      let base : get_or net.bases i 0 ≡ level_base (table_in net) i = net.setting.bases_at i (low i h) in
+      let base : get_or net.bases.at i 0 ≡ level_base (table_in net) i = net.setting.bases_at i (low i h) in
       rw (base, net.setting.states) (level-place (table_in net) i family q a b h (sym (ap operator_of e) ∙ is))

@@ -46,15 +46,6 @@ use Rattle.closure.proofs.AddSound.{places_apart}
 pub stays_same : {N : ℕ → Type 0} {K : Type 0} {W : ℕ → Type 0} {M : Memory} {r : Report} → Stays N K W M M r
 stays_same = record { steps = λ s l m. refl; nodes = λ j l n. refl; kept = λ n. refl; words = λ k n. refl }
 
-pub stays_more : {N N' : ℕ → Type 0} {K K' : Type 0} {W W' : ℕ → Type 0} {M O : Memory} {r : Report}
-    → Stays N K W M O r → ((j : ℕ) → N j → N' j) → (K → K') → ((k : ℕ) → W k → W' k) → Stays N' K' W' M O r
-stays_more a f g h = record {
-  steps = a.steps;
-  nodes = λ j l n. a.nodes j l (λ p. n (f j p));
-  kept = λ n. a.kept (λ p. n (g p));
-  words = λ k n. a.words k (λ p. n (h k p));
-}
-
 pub stays_then : {N : ℕ → Type 0} {K : Type 0} {W : ℕ → Type 0} {M O P : Memory} {r q : Report}
     → Stays N K W M O r → Stays N K W O P q → Stays N K W M P (both_reports r q)
 stays_then {r = r} {q = q} a b = record {

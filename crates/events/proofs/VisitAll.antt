@@ -3,7 +3,7 @@ use Prim.Native.Nat.{ℕ, ◌+◌, ◌<◌}
 use native.Mathlib.Omega.{arith}
 use native.Mathlib.Decide.{dec_lt}
 use mathlib.Core.Path.{◌≡◌, refl, sym, ap, subst, ◌∙◌}
-use mathlib.Core.Bool.{Bool, true, false, true≢false, false≢true}
+use mathlib.Core.Bool.{Bool, true, false, true≢false}
 use mathlib.Core.Logic.{◌⊎◌, inl, inr}
 use mathlib.Core.List.{List}
 use lib.ListN.{get_or}
@@ -16,23 +16,19 @@ use Rattle.table.specs.Facts.{Wellformed}
 use Rattle.ctl.specs.Rule.{Operator, operator_of}
 use Rattle.rows.specs.declared.row.Report.{Report}
 use Rattle.rows.specs.Words.{row_at, both_reports}
-use Rattle.propagate.specs.Memory.{Memory, node_place, failing, ordered}
+use Rattle.propagate.specs.Memory.{Memory, node_place, ordered}
 use Rattle.propagate.proofs.Ordered.{ordered-below, ordered_twice}
 use Rattle.readers.specs.Readers.{AreReaders}
-use Rattle.closure.specs.Knowledge.{Knowledge, knowledge, Sized, second_child}
+use Rattle.closure.specs.Knowledge.{Knowledge, knowledge, second_child}
 use Rattle.closure.specs.Rest.{RestStart, Rest}
 use Rattle.events.specs.Watched.{Watched, RestBut}
 use Rattle.events.specs.Looked.{Always, Swept, Looked, FirstLooks}
-use Rattle.closure.proofs.Advances.{advance_failing, advance_failed}
+use Rattle.closure.proofs.Advances.{advance_failed}
 use Rattle.closure.proofs.InsideParts.{level_last}
 use Rattle.events.proofs.Noting.{out_of}
-use Rattle.events.proofs.Looking.{looked_still, looked_so, looked_then}
+use Rattle.events.proofs.Looking.{looked_so, looked_then}
 
 -- ---- at first
-
--- nothing was done yet
-pub looked_none : (T : Table) (looks : List ℕ) (M : Memory) → Sized T M → Looked T (λ k. ⊥) Always looks looks M M (failing false M).report
-looked_none T looks M sized = looked_so (λ f k e. absurd e) (λ z. tt) (looked_still looks (advance_failing T false M sized (λ e. absurd (false≢true e))) refl)
 
 -- all is to be looked at, or all is at rest but what reads the steps out of a state of a set, whose readers are in their words
 pub first_watched : (T : Table) → Wellformed T → (readers looks : List ℕ) → AreReaders T readers → (changed : Option ℕ) (K : Knowledge)
@@ -51,9 +47,6 @@ first_watched T wf readers looks reads (Some set) K marked rest = record {
 -- the word of one of them
 abbrev pub Among : Bool → ℕ → ℕ → ℕ → Type 0
 Among down f k c = (j : ℕ) × (j < k) × (c ≡ ordered down f j)
-
-pub among_none : (T : Table) (down : Bool) (f : ℕ) (looks : List ℕ) (M : Memory) → Sized T M → Looked T (Among down f 0) Always looks looks M M (failing false M).report
-among_none T down f looks M sized = looked_so (λ z c e. let l = e.1 in omega arith) (λ z. tt) (looked_none T looks M sized)
 
 pub among_next : {T : Table} (down : Bool) (f k i : ℕ) → i ≡ ordered down f k → {looks looks' looks'' : List ℕ} {M N O : Memory} {r s : Report}
     → Looked T (Among down f k) Always looks looks' M N r → Looked T (λ c. c ≡ i) Always looks' looks'' N O s

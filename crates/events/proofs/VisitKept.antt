@@ -3,7 +3,7 @@ use Prim.Native.Nat.{ℕ, ◌+◌, ◌^◌, ◌<◌}
 use native.Mathlib.Omega.{arith}
 use native.Mathlib.Decide.{ℕ_discrete}
 use mathlib.Core.Path.{◌≡◌, refl, sym, ap, subst, ◌∙◌}
-use mathlib.Core.Bool.{Bool, true, false, false≢true}
+use mathlib.Core.Bool.{Bool, true, false}
 use mathlib.Core.List.{List}
 use lib.ListN.{length, get_or, set}
 use lib.Seq.{get_or-set_other}
@@ -18,7 +18,7 @@ use Rattle.rows.specs.declared.row.Report.{Report}
 use Rattle.rows.specs.Words.{row_at, both_reports, quiet}
 use Rattle.propagate.specs.Memory.{Memory, memory, stepped, node_place, kept_place, node_row, Stepped}
 use Rattle.readers.specs.Readers.{AreReaders, Raised, NodeMarked, StepsMarked, KeptMarked, Differ, grown}
-use Rattle.readers.proofs.MarkLaws.{Gone, gone_first, gone_next, gone_last, node_unchanged, steps_unchanged, grown_differ}
+use Rattle.readers.proofs.MarkLaws.{Gone, gone_next, gone_last, node_unchanged, steps_unchanged, grown_differ}
 use Rattle.closure.specs.Knowledge.{Knowledge, Sized}
 use Rattle.closure.specs.Rest.{initial_set, RestKept, RestStart}
 use Rattle.events.specs.declared.net.Net.{Net}
@@ -29,10 +29,10 @@ use Rattle.events.specs.Watched.{Watched}
 use Rattle.events.specs.Looked.{Stays, Always, KeptAlone, Looked}
 use Rattle.events.proofs.SettingFacts.{wellformed}
 use Rattle.closure.proofs.AddAdvance.{rows_small}
-use Rattle.closure.proofs.Advances.{advance_so, advance_then, advance_failing, advance_failed}
+use Rattle.closure.proofs.Advances.{advance_so, advance_then, advance_failed}
 use Rattle.closure.proofs.InsideParts.{word_place}
 use Rattle.closure.proofs.KeptAdvance.{kept_advance, start_advance}
-use Rattle.events.proofs.Stays.{stays_same, stays_then, kept_stays, start_stays}
+use Rattle.events.proofs.Stays.{stays_then, kept_stays, start_stays}
 use Rattle.events.proofs.Noting.{same_differ, noted}
 use Rattle.events.proofs.Looking.{looked_noted, looked_cleared, looked_still, looked_so, advance_knows}
 
@@ -56,12 +56,6 @@ abbrev pub KeptOn : Table → ℕ → ℕ → List ℕ → List ℕ → Report �
 KeptOn T look left rows₀ rows r = (w : List ℕ) → Sized T (memory rows₀ w) → KeptGone T look left (memory rows₀ w) (memory rows w) r
 
 module _ (T : Table) (look : ℕ) where
-  pub kept_first : (rows : List ℕ) → KeptOn T look look rows rows (record { changed = false; fails = false; steps = 0 })
-  kept_first rows w sized = record {
-    advance = advance_so T (λ e. gone_first look _) (advance_failing T false (memory rows w) sized (λ e. absurd (false≢true e)));
-    stays = stays_same;
-  }
-
   pub kept_next : Wellformed T → (targets : List ℕ) (left s : ℕ) → s < 32 → get_or targets s 0 ≡ target_set T.steps s → s < length T.states
       → (rows₀ rows rows' : List ℕ) (r q z : Report) → KeptOn T look left rows₀ rows r
       → ((w : List ℕ) → stepped rows' w q ≡ kept_step targets s (memory rows w)) → z ≡ both_reports r q → KeptOn T look (others left s) rows₀ rows' z

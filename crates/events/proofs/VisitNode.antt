@@ -4,7 +4,7 @@ use Prim.Native.Nat.{ℕ, ◌+◌, ◌*◌, ◌-◌, ◌≤◌, ◌<◌}
 use native.Mathlib.Omega.{arith}
 use native.Mathlib.Decide.{ℕ_discrete, dec_lt}
 use mathlib.Core.Path.{◌≡◌, refl, sym, ap, subst, ◌∙◌}
-use mathlib.Core.Bool.{Bool, true, false, true≢false, false≢true}
+use mathlib.Core.Bool.{Bool, true, false, true≢false}
 use mathlib.Core.Logic.{◌⊎◌, inl, inr, ⊎_elim}
 use mathlib.Core.List.{List}
 use lib.Bits.{bit_and}
@@ -17,7 +17,7 @@ use Rattle.sets.proofs.SetOf.{in_set}
 use borrow.Author.Tests.{lt-ltb, ltb-true}
 use Rattle.table.specs.declared.record.Node.{Node}
 use Rattle.table.specs.Table.{Table, node_at}
-use Rattle.table.specs.Second.{second_of}
+use Rattle.table.specs.Family.{second_of}
 use Rattle.table.proofs.Facts.{accepted}
 use Rattle.table.specs.Facts.{Wellformed}
 use Rattle.ctl.specs.Rule.{Operator, operator_of}
@@ -40,14 +40,14 @@ use Rattle.events.specs.Watched.{Watched}
 use Rattle.events.specs.Looked.{Stays, Always, Looked}
 use Rattle.closure.proofs.LevelsFit.{level_apart}
 use Rattle.closure.proofs.AddAdvance.{rows_small}
-use Rattle.closure.proofs.Advances.{advance_so, Advances, advance_failing}
+use Rattle.closure.proofs.Advances.{advance_so, Advances}
 use Rattle.closure.proofs.Masked.{OfStates}
 use Rattle.closure.proofs.NodeAdvance.{NodeRest, node_advance}
 use Rattle.events.proofs.SettingFacts.{wellformed, low}
 use Rattle.events.proofs.Stays.{node_stays}
 use Rattle.closure.proofs.InsideParts.{word_place}
 use Rattle.events.proofs.Noting.{same_differ, level_words, noted}
-use Rattle.events.proofs.Looking.{looked_noted, looked_cleared, looked_so, advance_knows, looked_still}
+use Rattle.events.proofs.Looking.{looked_noted, looked_cleared, advance_knows}
 
 -- the states of a word that are states of the table
 pub word_inside : (T : Table) (word all : ℕ) → all ≡ set_of 32 (λ t. ltb t (length T.states)) → OfStates T (bit_and word all)
@@ -145,16 +145,10 @@ module _ (T : Table) (wf : Wellformed T) (i : ℕ) (h : i < length T.nodes) (M N
 
 -- ---- a visit, by what the step of the node did: passed over, calm or loud
 
--- its word has no state
-pub visit_none : (T : Table) (M : Memory) → Sized T M → (looks : List ℕ) (i : ℕ) → get_or looks i 0 ≡ 0
-    → Looked T (λ k. k ≡ i) Always looks looks M M (record { changed = false; fails = false; steps = 0 })
-visit_none T M sized looks i none = looked_so (λ f k e. ap (λ (j : ℕ). get_or looks j 0) e ∙ none) (λ z. z)
-    (looked_still looks (advance_so T {Q = Always} (λ z. tt) (advance_failing T false M sized (λ e. absurd (false≢true e)))) refl)
-
 module _ (net : Net) (rows words rows' words' looks : List ℕ) (sized : Sized (table_in net) (memory rows words)) (few : length looks ≡ 33)
     (i : ℕ) (h : i < length (table_in net).nodes) (down : Bool) (x : Node) (read : x ≡ node_at (table_in net) i)
     (all : ℕ) (is_all : all ≡ set_of 32 (λ t. ltb t net.graph.states)) (r : Report)
-    (did : stepped rows' words' r ≡ node_step net.table.bytes.now net.graph.targets net.bases net.graph.states (bit_and (get_or looks i 0) all) down i (operator_of x) (memory rows words)) where
+    (did : stepped rows' words' r ≡ node_step net.table.bytes.now net.graph.targets net.bases.at net.graph.states (bit_and (get_or looks i 0) all) down i (operator_of x) (memory rows words)) where
   abbrev T : Table
   T = table_in net
 
@@ -168,7 +162,7 @@ module _ (net : Net) (rows words rows' words' looks : List ℕ) (sized : Sized (
   N = memory rows' words'
 
   abbrev step_of : ℕ → Node → Stepped
-  step_of m y = node_step net.table.bytes.now net.graph.targets net.bases m look down i (operator_of y) M
+  step_of m y = node_step net.table.bytes.now net.graph.targets net.bases.at m look down i (operator_of y) M
 
   all_are : all ≡ set_of 32 (λ t. ltb t (length T.states))
   all_are = is_all ∙ ap (λ (m : ℕ). set_of 32 (λ t. ltb t m)) net.setting.states
@@ -178,16 +172,13 @@ module _ (net : Net) (rows words rows' words' looks : List ℕ) (sized : Sized (
 
   advances : Advance T (NodeRest T i (operator_at T i) look) M N r
   advances = subst (λ (s : Stepped). Advances T (NodeRest T i (operator_at T i) look) M s) (sym of_table)
-      (node_advance net.table.bytes.now (accepted net.table.bytes.now net.table.passes) net.graph.targets net.bases net.setting.targets_at net.setting.bases_at look
+      (node_advance net.table.bytes.now (accepted net.table.bytes.now net.table.passes) net.graph.targets net.bases.at net.setting.targets_at net.setting.bases_at look
       (word_inside T (get_or looks i 0) all all_are) down i h M sized)
 
   stays : Stays (λ j. (j ≡ i) ⊎ (is_child (operator_at T i) j ≡ true)) ⊥ (λ k. (level_base T i ≤ k) × (k < level_base T i + level_size (length T.states) (operator_at T i))) M N r
   stays = subst (λ (s : Stepped). Stays (λ j. (j ≡ i) ⊎ (is_child (operator_at T i) j ≡ true)) ⊥ (λ k. (level_base T i ≤ k) × (k < level_base T i + level_size (length T.states) (operator_at T i))) M s.memory s.report)
       (sym of_table)
-      (node_stays net.table.bytes.now net.graph.targets net.bases (wellformed net) look down i h M sized (net.setting.bases_at i (low net i h)))
-
-  pub visit_sized : Sized (table_in net) (memory rows' words')
-  visit_sized = advances.sized
+      (node_stays net.table.bytes.now net.graph.targets net.bases.at (wellformed net) look down i h M sized (net.setting.bases_at i (low net i h)))
 
   pub visit_calm : quiet r ≡ true → Looked (table_in net) (λ k. k ≡ i) Always looks (set looks i 0) (memory rows words) (memory rows' words') r
   visit_calm calm = node_calm T (wellformed net) i h M N sized r looks few look (word_here T (wellformed net).few_states (get_or looks i 0) all all_are) advances calm

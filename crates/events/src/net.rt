@@ -2,21 +2,20 @@
 ghost use Rattle.std.specs.Prelude.{◌≡◌};
 ghost use Rattle.events.specs.Setting.{Setting};
 
-use closure::level_bases;
+use closure::{Bases, level_bases};
 use propagate::Graph;
 use readers::readers_of;
 use table::{Accepted, initial_states, target_sets};
 
-// The table, its states and steps, its initial states, where the words of the levels of each node lie and how many there are, and who reads what.
+// The table, its states and steps, its initial states, where the words of the levels lie, and who reads what.
 #[derive(Drop)]
 pub struct Net<'a> {
     pub table: Accepted<'a>,
     pub graph: Graph,
     pub initial: u32,
-    pub bases: [usize; 32],
-    pub levels: usize,
+    pub bases: Bases,
     pub readers: [u32; 65],
-    pub ghost setting: { Setting table.bytes.now graph initial bases levels readers },
+    pub ghost setting: { Setting table.bytes.now graph initial bases.at bases.total readers },
 }
 
 impl<'a> Net<'a> {
@@ -27,15 +26,13 @@ impl<'a> Net<'a> {
         let targets = target_sets(&table);
         let initial = initial_states(table.states, states);
         let readers = readers_of(&table, &targets);
-        let b = level_bases(&table);
+        let bases = level_bases(&table);
         let graph = Graph { targets, states };
-        let bases = b.at;
         Net {
             table,
             graph,
             initial,
             bases,
-            levels: b.total,
             readers,
         }
     }

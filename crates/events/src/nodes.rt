@@ -7,6 +7,7 @@ ghost use Rattle.events.specs.Looked.{Looked, Always};
 
 use crate::net::Net;
 use crate::visit::node_visit;
+use propagate::in_order;
 use rows::{Report, both};
 
 // Upward or downward, until something is known both ways. `down` is the order of the same visits, and picks no other step.
@@ -23,7 +24,7 @@ pub fn nodes_visit(
     let f = net.table.node_count();
     let mut report = Report::default();
     for k in 0..f {
-        let i = if down { f - 1 - k } else { k };
+        let i = in_order(down, f, k);
         report = both(report, node_visit(net, rows, words, looks, down, i));
         if report.fails {
             return report;

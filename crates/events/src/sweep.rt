@@ -54,7 +54,8 @@ fn first_looks(readers: &[u32; 65], changed: Option<u32>) -> [u32; 33]
 }
 
 // Works out the closure of every set of step literals P for which the rows lie between P and its closure: how many steps it settles, or None where it
-// fails. Where a set of states is given, all is at rest but what reads the steps out of them; else all is looked at.
+// fails. Where a set of states is given, all is at rest but what reads the steps out of them; else all is looked at. Rows and words stay two, with what
+// holds of both asked in clauses, here, in what calls this and in what this calls: rows are copied for a try, and words are lent in parts.
 pub fn close(
     net: &Net<'_>,
     rows: &mut [u32; 130],

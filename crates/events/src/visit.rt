@@ -22,14 +22,11 @@ fn kept_states(net: &Net<'_>, rows: &mut [u32; 130], look: u32) -> Report
     ensures { (w : List ℕ) → Sized (table_in net.now) (memory rows.old w) → KeptAlone (table_in net.now) look (memory rows.old w) (memory rows.new w) result }
 {
     let mut report = Report::default();
-    let mut left = look;
-    while left != 0 {
-        let s = sets::lowest(left);
+    for s in sets::members_of(look) {
         report = both(report, kept_step(&net.graph.targets, rows, s));
         if report.fails {
             return report;
         }
-        left = sets::remove(left, s);
     }
     report
 }
@@ -98,7 +95,7 @@ pub fn node_visit(
     let old = node_row(rows, i);
     let old_a = node_row(rows, a);
     let old_b = node_row(rows, b);
-    let base = net.bases[i];
+    let base = net.bases.at[i];
     let report = node_step(
         net.table.bytes,
         &net.graph,

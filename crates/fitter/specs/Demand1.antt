@@ -3,12 +3,11 @@
 --
 -- The contracts of src/lib.rt equate each call's number and buffers with the definitions that this file speaks of. They have no `requires`, and a
 -- function that is proved ends. The judge is lent no buffer. C lends numbers besides, each of which held `before`: Exports.antt says what they hold after.
-use Rattle.std.specs.Prelude.{ℕ, ◌<◌, ◌≡◌, Bool, true, ◌↔◌, length, get_or, replicate}
+use Rattle.std.specs.Prelude.{ℕ, ◌<◌, ◌≡◌, Bool, true, ◌↔◌, length, get_or, replicate, Ok, Err}
 use mathlib.Core.List.{List, Memᴰ}
 use Rattle.std.proofs.Math.Option.{some}
 use Rattle.sets.specs.Member.{set_of, count_of}
 use Rattle.table.specs.declared.refusal.Refusal.{Refusal}
-use Rattle.std.specs.Prelude.{Ok, Err}
 use Rattle.table.specs.Buffer.{Written}
 use Rattle.table.specs.Table.{table_of}
 use Rattle.table.specs.Accept.{initial_at}

@@ -2,9 +2,8 @@
 -- every accepted table and total list of kept steps."
 --
 -- The marks are the bits of Label's words, as the contract of `fitter_label` has them. What holds where, over infinite paths, is crate ctl's.
-use Rattle.std.specs.Prelude.{ℕ, ◌≤◌, ◌<◌, ◌≡◌, true, false, ◌↔◌, List, length, get_or}
+use Rattle.std.specs.Prelude.{ℕ, ◌≤◌, ◌<◌, ◌≡◌, true, false, ◌↔◌, List, length, get_or, Ok}
 use Rattle.sets.specs.Member.{member}
-use Rattle.std.specs.Prelude.{Ok}
 use Rattle.table.specs.Table.{table_of}
 use Rattle.table.specs.Accept.{table_verdict}
 use Rattle.ctl.specs.Kept.{IsList, Kept, Total, NodeHolds}

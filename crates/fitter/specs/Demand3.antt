@@ -2,9 +2,8 @@
 -- have only the table, its tests and its meaning (table, accept, ctl, sets) in common. Which states are reached each works out by its own code.
 --
 -- `repair_answer`, `repair_list` and `judge_verdict` are what the contracts of `fitter_repair` and `fitter_judge` equate their results with.
-use Rattle.std.specs.Prelude.{ℕ, ◌≤◌, ◌<◌, ◌≡◌, ◌↔◌, List, [], length, take}
+use Rattle.std.specs.Prelude.{ℕ, ◌≤◌, ◌<◌, ◌≡◌, ◌↔◌, List, [], length, take, Ok}
 use Rattle.std.proofs.Math.Option.{some}
-use Rattle.std.specs.Prelude.{Ok}
 use Rattle.table.specs.Table.{table_of}
 use Rattle.table.specs.Accept.{table_verdict}
 use Rattle.ctl.specs.Kept.{Struck, Repair, NarrowRepair}

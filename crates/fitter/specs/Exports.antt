@@ -2,18 +2,12 @@
 use Rattle.std.specs.Prelude.{ℕ, Result, Ok, Err}
 use Rattle.std.proofs.Math.Option.{Option, none, some}
 use Rattle.table.specs.declared.refusal.Refusal.{Refusal}
-use Rattle.table.specs.Verdict.{refusal_number}
 use Rattle.repair.specs.Answer.{Answer, answer_choices, answer_price, answer_settled}
 
 -- what an answer gives, and after a refusal what was there before
 abbrev pub given : {A : Type 0} → Result A Refusal → A → A
 given (Ok k) before = k
 given (Err r) before = before
-
--- 0 where a count is given, else the refusal's number
-abbrev pub count_number : {A : Type 0} → Result A Refusal → ℕ
-count_number (Ok k) = 0
-count_number (Err r) = refusal_number r
 
 -- Holding's count: that of the states where they are given, else as it was
 abbrev pub holding_count : Result ℕ Refusal → ℕ → ℕ

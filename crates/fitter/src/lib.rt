@@ -4,11 +4,11 @@
 ghost use Rattle.std.specs.Prelude.{◌≡◌, length};
 ghost use Rattle.table.specs.Verdict.{verdict_number};
 ghost use Rattle.ctl.specs.Tests.{judge_verdict};
-ghost use Rattle.label.specs.Calls.{label_verdict, label_buffer, holding_answer, holding_buffer, holding_number};
-ghost use Rattle.reader.specs.Read.{read_answer, read_buffer, read_number};
+ghost use Rattle.label.specs.Calls.{label_verdict, label_buffer, holding_answer, holding_buffer};
+ghost use Rattle.reader.specs.Read.{read_answer, read_buffer};
 ghost use Rattle.repair.specs.Answer.{answer_number};
 ghost use Rattle.repair.specs.Outcome.{repair_answer, repair_list, repair_bytes, repair_words};
-ghost use Rattle.fitter.specs.Exports.{given, count_number, holding_count, read_length, repair_choices, repair_price, repair_settled};
+ghost use Rattle.fitter.specs.Exports.{given, holding_count, read_length, repair_choices, repair_price, repair_settled};
 
 use search::Outcome;
 use table::Refusal;
@@ -33,7 +33,8 @@ fn store(
     number
 }
 
-// The number of Repair's answer, and what it carries stored: the choices, the price, 0 for none and spent, and the settled steps.
+// The number of Repair's answer, as fitter.h has it, and what it carries stored: the choices, the price, 0 for none and spent, and the settled steps. fitter.h
+// lends three numbers, and declares no enum or struct for them.
 fn store_answer(
     answer: Result<Outcome, Refusal>,
     choices: &mut u64,
@@ -95,9 +96,10 @@ pub fn fitter_label(table: &[u8], list: &[u8], out: &mut [u32]) -> u32
     table::verdict_number(label::label_nodes(table, list, out))
 }
 
-// The number of an answer that carries a count, and the count stored. After a refusal it stays.
+// The number of an answer that carries a count, and the count stored. After a refusal it stays. (`verdict_number` behind an `if let` was tried: the borrow
+// checker does not cover that of a generic answer.)
 fn store_count<T: Copy>(answer: Result<T, Refusal>, count: &mut T) -> u32
-    ensures value { result ≡ count_number answer }
+    ensures value { result ≡ verdict_number answer }
     ensures count_after { count.new ≡ given answer count.old }
 {
     match answer {
@@ -111,7 +113,7 @@ fn store_count<T: Copy>(answer: Result<T, Refusal>, count: &mut T) -> u32
 
 // 0, the states of the root's set in reading order and their count, or the refusal's number and nothing written.
 pub fn fitter_holding(table: &[u8], list: &[u8], out: &mut [u8], count: &mut u32) -> u32
-    ensures value { result ≡ holding_number (holding_answer table.now list.now (length out.old)) }
+    ensures value { result ≡ verdict_number (holding_answer table.now list.now (length out.old)) }
     ensures out_after { out.new ≡ holding_buffer table.now list.now out.old }
     ensures count_after { count.new ≡ holding_count (holding_answer table.now list.now (length out.old)) count.old }
 {
@@ -120,7 +122,7 @@ pub fn fitter_holding(table: &[u8], list: &[u8], out: &mut [u8], count: &mut u32
 
 // 0, the packed table of the sheet written and its length stored, or the refusal's number and nothing written.
 pub fn fitter_read(text: &[u8], out: &mut [u8], length: &mut u64) -> u32
-    ensures value { result ≡ read_number (read_answer text.now out.old) }
+    ensures value { result ≡ verdict_number (read_answer text.now out.old) }
     ensures out_after { out.new ≡ read_buffer text.now out.old }
     ensures length_after { length.new ≡ read_length (read_answer text.now out.old) length.old }
 {

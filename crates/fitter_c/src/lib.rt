@@ -1,11 +1,12 @@
-// The face of the fitter to C: each export is the call of that name of the crate fitter, under the same contract. Nothing else is exported.
+// The face of the fitter to C: each export is the call of that name of the crate fitter, under the same contract. Nothing else is exported. A crate is a
+// library for other crates or an archive for C, and the calls have to be both.
 #![tactic(auto)]
 
 ghost use Rattle.std.specs.Prelude.{◌≡◌, length};
 ghost use Rattle.table.specs.Verdict.{verdict_number};
 ghost use Rattle.ctl.specs.Tests.{judge_verdict};
-ghost use Rattle.label.specs.Calls.{label_verdict, label_buffer, holding_answer, holding_buffer, holding_number};
-ghost use Rattle.reader.specs.Read.{read_answer, read_buffer, read_number};
+ghost use Rattle.label.specs.Calls.{label_verdict, label_buffer, holding_answer, holding_buffer};
+ghost use Rattle.reader.specs.Read.{read_answer, read_buffer};
 ghost use Rattle.repair.specs.Answer.{answer_number};
 ghost use Rattle.repair.specs.Outcome.{repair_answer, repair_list, repair_bytes, repair_words};
 ghost use Rattle.fitter.specs.Exports.{holding_count, read_length, repair_choices, repair_price, repair_settled};
@@ -53,7 +54,7 @@ pub extern "C" fn fitter_label(table: &[u8], list: &[u8], out: &mut [u32]) -> u3
 // 0, the states of the root's set in reading order and their count, or the refusal's number and nothing written.
 #[unsafe(no_mangle)]
 pub extern "C" fn fitter_holding(table: &[u8], list: &[u8], out: &mut [u8], count: &mut u32) -> u32
-    ensures value { result ≡ holding_number (holding_answer table.now list.now (length out.old)) }
+    ensures value { result ≡ verdict_number (holding_answer table.now list.now (length out.old)) }
     ensures out_after { out.new ≡ holding_buffer table.now list.now out.old }
     ensures count_after { count.new ≡ holding_count (holding_answer table.now list.now (length out.old)) count.old }
 {
@@ -63,7 +64,7 @@ pub extern "C" fn fitter_holding(table: &[u8], list: &[u8], out: &mut [u8], coun
 // 0, the packed table of the sheet written and its length stored, or the refusal's number and nothing written.
 #[unsafe(no_mangle)]
 pub extern "C" fn fitter_read(text: &[u8], out: &mut [u8], length: &mut u64) -> u32
-    ensures value { result ≡ read_number (read_answer text.now out.old) }
+    ensures value { result ≡ verdict_number (read_answer text.now out.old) }
     ensures out_after { out.new ≡ read_buffer text.now out.old }
     ensures length_after { length.new ≡ read_length (read_answer text.now out.old) length.old }
 {

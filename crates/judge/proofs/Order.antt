@@ -5,8 +5,7 @@ use mathlib.Core.Bool.{true}
 use mathlib.Core.List.{List}
 use lib.ListN.{length}
 use Rattle.table.specs.declared.refusal.Refusal.TheVariants.{NotTotal, NoInitialKept, RootFails, UnreachedStep}
-use Rattle.table.specs.Verdict.{Verdict}
-use Rattle.table.specs.Verdict.{require, ◌then◌}
+use Rattle.table.specs.Verdict.{Verdict, require, ◌then◌}
 use Rattle.table.specs.Table.{Table, table_of}
 use Rattle.table.specs.Accept.{table_verdict, list_verdict}
 use Rattle.ctl.specs.Tests.{is_total, keeps_initial, leaves_reached, root_marked, judge_verdict}

@@ -1,6 +1,5 @@
 -- What the judge promises: it accepts a list exactly when it is a repair in the narrower sense, under path meaning, whatever the bytes.
-use Rattle.std.specs.Prelude.{ℕ, ◌≡◌, ◌↔◌, List}
-use Rattle.std.specs.Prelude.{Ok}
+use Rattle.std.specs.Prelude.{ℕ, ◌≡◌, ◌↔◌, List, Ok}
 use Rattle.table.specs.Table.{table_of}
 use Rattle.table.specs.Accept.{table_verdict}
 use Rattle.ctl.specs.Kept.{NarrowRepair}

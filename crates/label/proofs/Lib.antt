@@ -12,4 +12,3 @@ pub mod Lowest
 pub mod ReadingOrder
 pub mod Held
 pub mod Exact
-pub mod FixpointKind

@@ -1,7 +1,7 @@
 -- 01, calls 3 and 4: what Label and Holding answer, and what every lent entry holds afterwards.
 use Rattle.std.specs.Prelude.{ℕ, List, ◌++◌, leb, length, drop, Result, Ok, Err}
 use Rattle.table.specs.declared.refusal.Refusal.{Refusal}
-use Rattle.table.specs.Verdict.{Verdict, refusal_number}
+use Rattle.table.specs.Verdict.{Verdict}
 use Rattle.table.specs.Buffer.{on_accepted, over}
 use Rattle.table.specs.Table.{Table, table_of}
 use Rattle.table.specs.Accept.{initial_at}
@@ -36,8 +36,3 @@ holding_answer table list room = holding_at (holding_verdict table list room) (l
 abbrev pub holding_buffer : List ℕ → List ℕ → List ℕ → List ℕ
 holding_buffer table list buffer =
     on_accepted (holding_verdict table list (length buffer)) (held_states (table_of table) list ++ drop (length (held_states (table_of table) list)) buffer) buffer
-
--- the number of an answer: 0 where the states are given, else the refusal's
-abbrev pub holding_number : Result ℕ Refusal → ℕ
-holding_number (Ok k) = 0
-holding_number (Err r) = refusal_number r

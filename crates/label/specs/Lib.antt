@@ -3,4 +3,3 @@ pub mod Analysis
 pub mod ReadingOrder
 pub mod Calls
 pub mod Exact
-pub mod Families

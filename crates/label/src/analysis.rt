@@ -8,7 +8,8 @@ use crate::room::{Room, room_fits};
 use crate::rows::KeptRows;
 use table::{Accepted, Refusal};
 
-// The kept next states of each state, the initial states, the kept states, the root's set and the set of each node.
+// The kept next states of each state, the initial states, the kept states, the root's set and the set of each node: a record of the definitions too, which
+// have no `KeptRows`.
 #[derive(Clone, Copy)]
 pub struct Analysis {
     pub rows: [u32; 32],

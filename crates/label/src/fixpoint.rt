@@ -28,15 +28,12 @@ fn join_sets(family: Family, a: u32, b: u32, next: u32) -> u32
 }
 
 impl KeptRows {
-    #[tactic(auto, using(sets::proofs::Collect::collect), unfolding(sets::specs::Member::set_of, crate::specs::Words::next_word))]
+    #[tactic(auto, unfolding(crate::specs::Words::next_word))]
     pub fn next_states(&self, q: Quantifier, set: u32) -> u32
         ensures { result ≡ next_word q self.now.rows self.now.states set }
     {
-        let mut states = 0u32;
-        for s in 0..self.states {
-            states = sets::insert_if(states, s, row_next(q, self.rows[s], set));
-        }
-        states
+        // There are at most 32 states. The bound is said in the code too, so that the compiler can leave out the test of the bound at each state.
+        sets::collect(self.states.min(32), |s| row_next(q, self.rows[s], set))
     }
 
     // Level n of a family, from the set of b, for n states; a level that changes nothing is the last that is needed.

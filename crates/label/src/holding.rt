@@ -9,16 +9,13 @@ use crate::analysis::analyse;
 use crate::room::Room;
 use table::Refusal;
 
-// The states of a set, ascending, at the start of the buffer: the lowest member first, and then those of the rest.
+// The states of a set, ascending, at the start of the buffer.
 fn write_ascending(set: u32, out: &mut [u8])
     requires { length (states_with (below 32) (member set)) ≤ length out.old }
     ensures { out.new ≡ states_with (below 32) (member set) ++ drop (length (states_with (below 32) (member set))) out.old }
 {
-    let mut left = set;
-    for i in 0..sets::count(set) as usize {
-        let s = sets::lowest(left);
+    for (i, s) in sets::members_of(set).enumerate() {
         out[i] = s as u8;
-        left = sets::remove(left, s);
     }
 }
 

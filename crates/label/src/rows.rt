@@ -18,6 +18,8 @@ pub struct KeptRows {
 }
 
 impl KeptRows {
+    // That the list is as long as the steps is asked here, in `kept_rows` and in `total_sets`. A struct of table and list would be no plainer: each clause
+    // would take both out of it again.
     pub fn new(table: &Accepted<'_>, list: &[u8]) -> KeptRows
         requires { length list.now ≡ length (table_of table.now.bytes.now).steps }
         ensures rows_are { result.rows ≡ target_sets (kept_steps (table_of table.now.bytes.now).steps list.now) }
@@ -45,9 +47,8 @@ impl KeptRows {
     }
 }
 
-// One pass over the steps: a kept step sets its bit.
-// `table::target_sets` lets every step through. One pass for both, with the filter as a closure, is no plainer: the closure reads the list at each
-// step, so that the list is long enough for it would stand in the contract of the pass.
+// One pass over the steps: a kept step sets its bit. `table::target_sets` lets every step through; one pass for both, over a closure, is no
+// plainer: the rows of the steps that pass by their numbers would be a definition of their own, and both would have to be shown from it.
 fn kept_rows(table: &Accepted<'_>, list: &[u8]) -> [u32; 32]
     requires { length list.now ≡ length (table_of table.now.bytes.now).steps }
     ensures { result ≡ target_sets (kept_steps (table_of table.now.bytes.now).steps list.now) }
@@ -63,14 +64,9 @@ fn kept_rows(table: &Accepted<'_>, list: &[u8]) -> [u32; 32]
 }
 
 // The kept states: those with a next state.
-#[tactic(auto, using(sets::proofs::Collect::collect), unfolding(sets::specs::Member::set_of))]
 fn kept_states(rows: &[u32; 32], n: usize) -> u32
     requires { n ≤ 32 }
     ensures { result ≡ kept_word rows.now n }
 {
-    let mut kept = 0u32;
-    for s in 0..n {
-        kept = sets::insert_if(kept, s, rows[s] != 0);
-    }
-    kept
+    sets::collect(n, |s| rows[s] != 0)
 }

@@ -1,16 +1,9 @@
--- The k-th of n numbers, going up or going down, by the ways that the code takes to it.
-use Prim.Native.Nat.{ℕ, ◌-◌, ◌<◌}
+-- The k-th of n numbers, going up or going down.
+use Prim.Native.Nat.{ℕ, ◌<◌}
 use native.Mathlib.Omega.{arith}
 use mathlib.Core.Path.{◌≡◌, refl}
 use mathlib.Core.Bool.{Bool, true, false}
 use Rattle.propagate.specs.Memory.{ordered}
-
-module _ (down : Bool) (n k m : ℕ) where
-  pub going_down : down ≡ true → m ≡ n - 1 - k → m ≡ ordered down n k
-  going_down d e = simp d e
-
-  pub going_up : down ≡ false → m ≡ k → m ≡ ordered down n k
-  going_up d e = simp d e
 
 -- it is one of the n
 pub ordered-below : (down : Bool) (n k : ℕ) → k < n → ordered down n k < n

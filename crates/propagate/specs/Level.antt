@@ -1,15 +1,17 @@
 -- The levels of a fixed-point node, as a function of the memory: level 0 is the row of b and level n that of the node; the others lie in the
 -- words from `base` on.
-use Rattle.std.specs.Prelude.{ℕ, suc, ◌+◌, ◌*◌, ◌-◌, ◌≤◌, ◌<◌, ◌≡◌, Bool, false, cond, ◌&&◌, List, eqb, ltb, length}
+use Rattle.std.specs.Prelude.{ℕ, suc, ◌+◌, ◌*◌, ◌-◌, ◌≤◌, ◌<◌, ◌≡◌, Bool, false, cond, ◌&&◌, List, eqb, ltb, length, Option, None, Some}
+use Rattle.std.specs.Bool.{then_some}
 use Rattle.sets.specs.Member.{set_of}
 use Rattle.table.specs.declared.operator.Family.{Family}
 use Rattle.rows.specs.declared.row.Row.{Row}
 use Rattle.rows.specs.declared.row.Report.{Report}
 use Rattle.propagate.specs.declared.level.Fixpoint.{Fixpoint}
+use Rattle.propagate.specs.declared.levels.LevelRows.{LevelRows}
 use Rattle.propagate.specs.declared.levels.Seen.{Seen}
 use Rattle.rows.specs.declared.joined.Joined.{Joined}
 use Rattle.rows.specs.Row.{same_row}
-use Rattle.rows.specs.Rules.{row, masked, join_of}
+use Rattle.rows.specs.Rules.{masked, join_of}
 use Rattle.rows.specs.Words.{row_at, quiet}
 use Rattle.propagate.specs.Memory.{Memory, node_place, Stepped, failing, ◌and_then◌, add_row, add_word, node_row, Visit, passed, each_with, ordered, ahead_in, go_back_more}
 
@@ -45,13 +47,22 @@ module _ (targets : List ℕ) (n : ℕ) (x : Fixpoint) (m : ℕ) where
   unfoldable pub level_step : ℕ → Memory → Stepped
   level_step set M = level_with (level_at n x m M) (joined_at set (level_at n x m M) M) M
 
+-- a level was quiet, and had these rows
+abbrev pub had_rows : Option LevelRows → Row → Row → Bool
+had_rows None level below = false
+had_rows (Some r) level below = same_row r.level level && same_row r.below below
+
 -- the level seen last added nothing, and had these rows
 abbrev pub alike : Seen → Row → Row → Bool
-alike v level below = v.quiet && (same_row v.level level && same_row v.below below)
+alike v level below = had_rows v.quiet level below
+
+-- the rows of a level where it added nothing
+abbrev pub quiet_rows : Report → Row → Row → Option LevelRows
+quiet_rows r level below = then_some (quiet r) (record { level = level; below = below })
 
 -- none is seen yet, and these states are to be looked at
 abbrev pub nothing_seen : ℕ → Seen
-nothing_seen look = record { look = look; quiet = false; level = row 0 0; below = row 0 0 }
+nothing_seen look = record { look = look; quiet = None }
 
 -- the states to look at from then on: where something was added, all
 abbrev pub look_after : ℕ → Report → ℕ → ℕ
@@ -62,7 +73,7 @@ level_look targets n x m v M =
     let s = level_step targets n x m v.look M in
     record {
       done = s;
-      left = record { look = look_after n s.report v.look; quiet = quiet s.report; level = level_at n x (suc m) M; below = level_at n x m M };
+      left = record { look = look_after n s.report v.look; quiet = quiet_rows s.report (level_at n x (suc m) M) (level_at n x m M) };
     }
 
 -- a level like the one seen last is passed over

@@ -43,7 +43,8 @@ pub fn pair_step(rows: &mut [u32; 130], i: usize, same: bool, a: usize, b: usize
     both_step(rows, i, same, a, b)
 }
 
-// Back from N to the steps and to a, with what is known of N beside what its ends say.
+// Back from N to the steps and to a, with what is known of N beside what its ends say. `level_back` differs in where the end goes: a closure for that
+// would change the rows, and the contract would have to say how.
 fn next_back(
     graph: &Graph,
     rows: &mut [u32; 130],

@@ -1,4 +1,5 @@
-// Where the rows of the nodes lie: that of node i at 64 + 2 i. Those of the steps lie before them, and that of K after.
+// Where the rows of the nodes lie: that of node i at 64 + 2 i. Those of the steps lie before them, and that of K after. They are one array of words,
+// as the lent ones of the levels are, so that one `add` and one `row_at` serve both; their places are told here, in `rows` and in `closure`.
 ghost use Rattle.std.specs.Prelude.{◌≡◌, ◌<◌};
 ghost use Rattle.rows.specs.Words.{row_at, joined, report_of};
 ghost use Rattle.propagate.specs.Memory.{node_place};

@@ -1,4 +1,5 @@
-// A level of a fixed-point node: level 0 is the row of b and level n that of the node, the others lie in the lent words from `base` on.
+// A level of a fixed-point node: level 0 is the row of b and level n that of the node, the others lie in the lent words from `base` on, two words a row,
+// for C lends single ones.
 ghost use Rattle.std.specs.Prelude.{◌≡◌, ◌≤◌, ◌<◌, length};
 ghost use Rattle.propagate.specs.Memory.{memory, stepped, go_back_more};
 ghost use Rattle.propagate.specs.Level.{level_at, add_level, add_joined, joined_at, level_step, Fits};
@@ -8,8 +9,9 @@ use crate::layout::{add_node, node_row};
 use rows::{Joined, Report, Row, add, ahead, both, go_back, is_none, join, mask, row_at, turn};
 use table::Family;
 
-// That a fixed point fits the memory (`Fits`) is asked in the contracts and is no invariant: it speaks of the lent words too, which change hands at each
-// call, and the definitions speak of fixed points anywhere. `every` is a bool, as `turn` takes it.
+// That a fixed point fits the memory (`Fits`), and that a level is one of its n, is asked in the contracts and is no invariant: `Fits` speaks of the lent
+// words too, which change hands at each call, and the definitions speak of fixed points anywhere. Graph, rows, words, fixed point and level are handed on
+// one by one, since some are changed and some are lent in parts. `every` is a bool, as `turn` takes it.
 
 // A fixed-point node: its family, its number and children, whether it is of every path, and where its levels lie.
 #[derive(Clone, Copy)]

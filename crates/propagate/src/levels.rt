@@ -8,13 +8,18 @@ use crate::graph::Graph;
 use crate::level::{Fixpoint, level_row, level_step};
 use rows::{Report, Row, both, is_quiet};
 
-// The states to look at, and the level looked at last: whether it added nothing, its row and that of the level below it.
+// The row of a level, and that of the level below it.
+#[derive(Clone, Copy, PartialEq, Eq)]
+pub struct LevelRows {
+    pub level: Row,
+    pub below: Row,
+}
+
+// The states to look at, and the rows of the level looked at last where it added nothing.
 #[derive(Clone, Copy)]
 pub struct Seen {
     pub look: u32,
-    pub quiet: bool,
-    pub level: Row,
-    pub below: Row,
+    pub quiet: Option<LevelRows>,
 }
 
 // What looking at a level did.
@@ -27,7 +32,7 @@ pub struct LevelVisit {
 fn is_alike(seen: Seen, level: Row, below: Row) -> bool
     ensures { result ≡ alike seen level below }
 {
-    seen.quiet && seen.level == level && seen.below == below
+    seen.quiet == Some(LevelRows { level, below })
 }
 
 // Level m + 1 over level m.
@@ -63,9 +68,7 @@ fn level_visit(
         report,
         seen: Seen {
             look,
-            quiet: is_quiet(report),
-            level,
-            below,
+            quiet: is_quiet(report).then_some(LevelRows { level, below }),
         },
     }
 }
@@ -78,7 +81,8 @@ pub fn in_order(down: bool, n: usize, k: usize) -> usize
     if down { n - 1 - k } else { k }
 }
 
-// Upward or downward, until something is known both ways.
+// Upward or downward, until something is known both ways. Two loops of `events` end so too: one function for them, over a closure, would change the rows
+// through it, and its contract would have to say how.
 pub fn fixpoint_step(
     graph: &Graph,
     rows: &mut [u32; 130],
@@ -91,12 +95,7 @@ pub fn fixpoint_step(
     ensures { stepped rows.new words.new result ≡ (levels_from graph.now.targets graph.now.states x down look graph.now.states (memory rows.old words.old)).done }
 {
     let mut report = Report::default();
-    let mut seen = Seen {
-        look,
-        quiet: false,
-        level: Row::default(),
-        below: Row::default(),
-    };
+    let mut seen = Seen { look, quiet: None };
     for k in 0..graph.states {
         let m = in_order(down, graph.states, k);
         let v = level_visit(graph, rows, words, x, m, seen);

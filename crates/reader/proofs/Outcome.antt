@@ -10,9 +10,8 @@ use lib.Dec.{leb}
 use lib.ListN.{length, drop}
 use Rattle.table.specs.declared.refusal.Refusal.{Refusal}
 use Rattle.table.specs.declared.refusal.Refusal.TheVariants.{SheetForm, Counts as CountsRefused, ShortBuffer}
-use Rattle.table.specs.Verdict.{Verdict}
+use Rattle.table.specs.Verdict.{Verdict, require}
 use Rattle.std.specs.Prelude.{Ok, Err}
-use Rattle.table.specs.Verdict.{require}
 use Rattle.table.specs.Table.{counts_of, packed_length}
 use Rattle.table.specs.Accept.{counts_fit, table_verdict}
 use Rattle.table.proofs.Facts.{counts_within}

@@ -58,13 +58,13 @@ module _ (v : Sheet) (h : InRange v) where
   abbrev nodes_bytes : List ℕ
   nodes_bytes = bytes_of pack_node v.nodes
 
-  states-length : length states_bytes ≡ state_width * v.counts.states
+  pub states-length : length states_bytes ≡ state_width * v.counts.states
   states-length = bytes_length pack_state 3 (λ s. refl) v.states ∙ ap (λ (n : ℕ). 3 * n) h.states_count
 
-  steps_length : length steps_bytes ≡ step_width * v.counts.steps
+  pub steps_length : length steps_bytes ≡ step_width * v.counts.steps
   steps_length = bytes_length pack_step 3 (λ s. refl) v.steps ∙ ap (λ (n : ℕ). 3 * n) h.steps_count
 
-  nodes_length : length nodes_bytes ≡ node_width * v.counts.nodes
+  pub nodes_length : length nodes_bytes ≡ node_width * v.counts.nodes
   nodes_length = bytes_length pack_node 3 (λ s. refl) v.nodes ∙ ap (λ (n : ℕ). 3 * n) h.nodes_count
 
   front_length : length (pack_counts v.counts ++ states_bytes) ≡ header_width + state_width * v.counts.states

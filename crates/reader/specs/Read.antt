@@ -7,7 +7,7 @@ use Rattle.table.specs.declared.record.Step.{Step}
 use Rattle.table.specs.declared.record.Node.{Node}
 use Rattle.table.specs.declared.refusal.Refusal.{Refusal}
 use Rattle.table.specs.declared.refusal.Refusal.TheVariants.{SheetForm, ShortBuffer}
-use Rattle.table.specs.Verdict.{Verdict, require, ◌then◌, refusal_number}
+use Rattle.table.specs.Verdict.{Verdict, require, ◌then◌}
 use Rattle.table.specs.Buffer.{on_accepted}
 use Rattle.table.specs.Accept.{table_verdict}
 use Rattle.sheet.specs.Form.{Sheet, bytes_of}
@@ -65,8 +65,3 @@ read_answer text out = answer (read_verdict text (length out)) (packed (parse te
 
 abbrev pub read_buffer : List ℕ → List ℕ → List ℕ
 read_buffer text out = buffer (read_verdict text (length out)) (packed (parse text)) out
-
--- the number of each case: 0 for a length, else the refusal's
-abbrev pub read_number : Answer → ℕ
-read_number (Ok n) = 0
-read_number (Err r) = refusal_number r

@@ -5,4 +5,4 @@ mod pack;
 mod reader;
 mod record;
 
-pub use reader::read;
+pub use reader::{LONGEST, read};

@@ -10,10 +10,10 @@ use crate::record::{Packed, counts_bytes};
 use sheet::Form;
 use table::{HEADER_WIDTH, Node, RECORD_WIDTH, State, Step};
 
-// The records of so many lines, as far as they are of the form, stored from a place on.
-fn pack_lines<R: Packed>(text: &[u8], count: usize, packed: &mut [u8], from: usize)
-    requires { from + record_width * count ≤ length packed.old }
-    ensures { packed.new ≡ sets packed.old from (bytes_of R.packed (values count R.parser text.now)) }
+// The records of so many lines, as far as they are of the form, stored from the front on.
+fn pack_lines<R: Packed>(text: &[u8], count: usize, packed: &mut [u8])
+    requires { record_width * count ≤ length packed.old }
+    ensures { packed.new ≡ sets packed.old 0 (bytes_of R.packed (values count R.parser text.now)) }
 {
     let mut rest = text;
     for j in 0..count {
@@ -21,7 +21,8 @@ fn pack_lines<R: Packed>(text: &[u8], count: usize, packed: &mut [u8], from: usi
             return;
         };
         let (record, behind) = line;
-        let at = from + RECORD_WIDTH * j;
+        // by place: of what `chunks_exact_mut` lends, the length alone is known afterwards
+        let at = RECORD_WIDTH * j;
         packed[at..at + RECORD_WIDTH].copy_from_slice(&record.bytes());
         rest = behind;
     }
@@ -37,7 +38,11 @@ pub fn pack_sheet(form: &Form<'_>, packed: &mut [u8])
     let second = HEADER_WIDTH + RECORD_WIDTH * counts.states;
     let third = second + RECORD_WIDTH * counts.steps;
     packed[..HEADER_WIDTH].copy_from_slice(&counts_bytes(counts));
-    pack_lines::<State>(form.states, counts.states, packed, HEADER_WIDTH);
-    pack_lines::<Step>(form.steps, counts.steps, packed, second);
-    pack_lines::<Node>(form.nodes, counts.nodes, packed, third);
+    pack_lines::<State>(
+        form.states,
+        counts.states,
+        &mut packed[HEADER_WIDTH..second],
+    );
+    pack_lines::<Step>(form.steps, counts.steps, &mut packed[second..third]);
+    pack_lines::<Node>(form.nodes, counts.nodes, &mut packed[third..]);
 }

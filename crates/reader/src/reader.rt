@@ -8,7 +8,7 @@ use sheet::check_form;
 use table::{Refusal, packed_length};
 
 // The length of the longest table.
-const LONGEST: usize = 580;
+pub const LONGEST: usize = 580;
 
 // Test 1 first, over the whole text. A table longer than the longest has a count out of its range, 3. Else the values are packed
 // into zero bytes of the reader's own, 3 to 8 are tested there, then 10, and only then the lent buffer is written.

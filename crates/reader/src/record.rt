@@ -14,6 +14,7 @@ pub trait Packed: Line {
 
     ghost packed: { Self → List ℕ };
 
+    // No `From`: `from` asks nothing of its value, and the bytes need the values in their ranges.
     fn bytes(self) -> [u8; 3]
         requires { in_range self }
         ensures { result ≡ packed self };

@@ -23,9 +23,6 @@ use Rattle.rows.proofs.RowLaws.{or-true, without-true}
 
 -- ---- words that only grow
 
-pub raised_none : (a : List ℕ) → Raised a a
-raised_none a = record { same_length = refl; stays = λ k s m. m }
-
 pub raised_then : {a b c : List ℕ} → Raised a b → Raised b c → Raised a c
 raised_then p q = record { same_length = q.same_length ∙ p.same_length; stays = λ k s m. q.stays k s (p.stays k s m) }
 
@@ -62,9 +59,6 @@ module _ {readers looks looks' : List ℕ} (r : Raised looks looks') where
 
   pub kept_marked_more : {set : ℕ} → KeptMarked readers looks set → KeptMarked readers looks' set
   kept_marked_more m = record { here = λ t e. r.stays 32 t (m.here t e); behind = λ t s e q. r.stays 32 s (m.behind t s e q) }
-
-  pub steps_marked_more : {set : ℕ} → StepsMarked readers looks set → StepsMarked readers looks' set
-  steps_marked_more m = record { kept = λ s e. r.stays 32 s (m.kept s e); nodes = λ i s p e. r.stays i s (m.nodes i s p e) }
 
 -- no change leaves no marks to make
 no_member : (set : ℕ) → set ≡ 0 → (t : ℕ) → member set t ≡ true → ⊥
@@ -103,9 +97,6 @@ grown_differ old new p q w t none sign = same_test (known new sign t) (known old
 -- P holds of those gone through
 abbrev pub Gone : ℕ → ℕ → (ℕ → Type 0) → Type 0
 Gone all left P = (t : ℕ) → t < 32 → member all t ≡ true → member left t ≡ false → P t
-
-pub gone_first : (all : ℕ) (P : ℕ → Type 0) → Gone all all P
-gone_first all P t h m e = absurd (true≢false (sym m ∙ e))
 
 pub gone_next : (all left s : ℕ) (P Q : ℕ → Type 0) → ((t : ℕ) → P t → Q t) → Gone all left P → Q s → Gone all (others left s) Q
 gone_next all left s P Q more g here t h m e = go (eqb t s) refl

@@ -9,7 +9,7 @@ use borrow.Author.Tests.{eqb-true}
 use lib.Dec.{eqb}
 use lib.ListN.{get_or}
 use Rattle.table.specs.declared.record.Node.{Node}
-use Rattle.table.specs.Second.{second_of}
+use Rattle.table.specs.Family.{second_of}
 use Rattle.table.proofs.Bools.{or_parts}
 use Rattle.table.proofs.Numbers.{four}
 use Rattle.ctl.specs.Rule.{Operator, constant, atom, negation, conjunction, disjunction, next, fixpoint, operators, operator_of}

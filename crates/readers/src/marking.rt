@@ -5,8 +5,13 @@ ghost use Rattle.readers.specs.Readers.{Raised, NodeMarked, KeptMarked, StepsMar
 
 use rows::{Row, new_of};
 
+// Readers and words to look at are arrays of words with places of several kinds, so that one `put` and one `raise` serve both.
+
 // Where the word of K lies, behind those of the nodes.
 pub const KEPT_WORD: usize = 32;
+
+// Where the nodes that read a node stand, from node 0 on, behind the states that read each state.
+pub const NODE_READERS: usize = 32;
 
 // Where the nodes that read steps stand.
 pub const STEP_READERS: usize = 64;
@@ -25,12 +30,8 @@ fn spread(readers: &[u32; 65], set: u32) -> u32
     ensures behind { (t s : ℕ) → member set t ≡ true → member (get_or readers.now t 0) s ≡ true → member result s ≡ true }
 {
     let mut all = set;
-    let mut left = set;
-    while left != 0 {
-        let t = sets::lowest(left);
-        let more = readers[t];
-        all = all | more;
-        left = sets::remove(left, t);
+    for t in sets::members_of(set) {
+        all = all | readers[t];
     }
     all
 }
@@ -51,11 +52,8 @@ pub fn raise(looks: &mut [u32], nodes: u32, set: u32)
     ensures raised { Raised looks.old looks.new }
     ensures added { (i s : ℕ) → member nodes i ≡ true → member set s ≡ true → member (get_or looks.new i 0) s ≡ true }
 {
-    let mut left = nodes;
-    while left != 0 {
-        let i = sets::lowest(left);
+    for i in sets::members_of(nodes) {
         put(looks, i, set);
-        left = sets::remove(left, i);
     }
 }
 
@@ -68,8 +66,7 @@ pub fn mark_node(readers: &[u32; 65], looks: &mut [u32; 33], c: usize, set: u32)
     if set == 0 {
         return;
     }
-    let at = 32 + c;
-    let nodes = readers[at];
+    let nodes = readers[NODE_READERS + c];
     let more = spread(readers, set);
     put(looks, c, set);
     raise(looks, nodes, more);

@@ -7,7 +7,7 @@ ghost use Rattle.ctl.specs.Rule.{operator_of};
 ghost use Rattle.readers.specs.Reads.{is_child, reads_steps};
 ghost use Rattle.readers.specs.Readers.{AreReaders, Raised};
 
-use crate::marking::{STEP_READERS, put, raise};
+use crate::marking::{NODE_READERS, STEP_READERS, put, raise};
 use table::{Accepted, Operator};
 
 // A state reads the ends of the steps out of it.
@@ -33,12 +33,12 @@ fn child_reader(operator: Operator, i: usize, readers: &mut [u32; 65])
     let one = sets::insert(0, i);
     match operator {
         Operator::Constant(_) | Operator::Atom(_) => {}
-        Operator::Negation(a) | Operator::Next(_, a) => put(readers, 32 + a, one),
+        Operator::Negation(a) | Operator::Next(_, a) => put(readers, NODE_READERS + a, one),
         Operator::Conjunction(a, b)
         | Operator::Disjunction(a, b)
         | Operator::Fixpoint(_, _, a, b) => {
-            put(readers, 32 + a, one);
-            put(readers, 32 + b, one);
+            put(readers, NODE_READERS + a, one);
+            put(readers, NODE_READERS + b, one);
         }
     }
 }

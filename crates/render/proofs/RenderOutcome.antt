@@ -7,9 +7,8 @@ use lib.Dec.{leb}
 use lib.ListN.{length, drop}
 use Rattle.table.specs.declared.refusal.Refusal.{Refusal}
 use Rattle.table.specs.declared.refusal.Refusal.TheVariants.{ShortBuffer}
-use Rattle.table.specs.Verdict.{Verdict}
+use Rattle.table.specs.Verdict.{Verdict, require}
 use Rattle.std.specs.Prelude.{Ok, Err}
-use Rattle.table.specs.Verdict.{require}
 use Rattle.table.specs.Accept.{table_verdict}
 use Rattle.table.proofs.Verdicts.{then_refused, then_next}
 use Rattle.sheet.specs.Form.{render}

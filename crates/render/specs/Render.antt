@@ -2,8 +2,7 @@
 use Rattle.std.specs.Prelude.{ℕ, ◌+◌, ◌≤◌, ◌≡◌, List, leb, length}
 use Rattle.std.proofs.lemmas.List.Edits.{sets}
 use Rattle.table.specs.declared.refusal.Refusal.TheVariants.{ShortBuffer}
-use Rattle.table.specs.Verdict.{Verdict}
-use Rattle.table.specs.Verdict.{require, ◌then◌}
+use Rattle.table.specs.Verdict.{Verdict, require, ◌then◌}
 use Rattle.table.specs.Table.{counts_of, states_of, steps_of, nodes_of}
 use Rattle.table.specs.Accept.{table_verdict}
 use Rattle.sheet.specs.Form.{Sheet, render}

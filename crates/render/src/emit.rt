@@ -15,7 +15,8 @@ pub fn put_bytes(text: &mut [u8], at: usize, bytes: &[u8]) -> usize
     next
 }
 
-// A number in decimal: one digit, or the digits of its tenth and its last digit.
+// A number in decimal: one digit, or the digits of its tenth and its last digit. `write!` into a lent slice promises nothing of the
+// bytes, and `fmt::InlineText`, a text of fixed size, does not promise that a number which fits stands there whole.
 fn put_number(text: &mut [u8], at: usize, value: usize) -> usize
     requires { Room text.old at (decimal value) }
     ensures { Stored text.old at (decimal value) text.new result }

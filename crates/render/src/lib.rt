@@ -7,5 +7,5 @@ mod write_line;
 mod writer;
 
 pub use emit::{put_bytes, put_field};
-pub use write_line::write_triple;
+pub use write_line::write_values;
 pub use writer::render_table;

@@ -4,9 +4,8 @@ ghost use Rattle.table.specs.Table.{record_width, records, three, state_of, step
 ghost use Rattle.sheet.specs.Form.{bytes_of, state_line, step_line, node_line};
 ghost use Rattle.render.specs.Render.{Room, Stored};
 
-use crate::emit::{put_bytes, put_field};
-use crate::write_line::write_triple;
-use sheet::{NEWLINE, SPACE};
+use crate::emit::put_bytes;
+use crate::write_line::write_values;
 use table::{Node, State, Step, record_at};
 
 // A record that is read from the bytes of a section, and written as a line of a sheet.
@@ -27,10 +26,8 @@ impl Written for State {
 
     ghost line = { state_line };
 
-    #[tactic(auto, unfolding(sheet::specs::Form::line))]
     fn write(self, text: &mut [u8], at: usize) -> usize {
-        let second = put_field(text, at, self.initial, SPACE);
-        put_field(text, second, self.label, NEWLINE)
+        write_values(text, at, &[self.initial, self.label])
     }
 
     ghost from_bytes = { λ bytes x e. e };
@@ -42,7 +39,7 @@ impl Written for Step {
     ghost line = { step_line };
 
     fn write(self, text: &mut [u8], at: usize) -> usize {
-        write_triple(text, at, self.from, self.to, self.price)
+        write_values(text, at, &[self.from, self.to, self.price])
     }
 
     ghost from_bytes = { λ bytes x e. e };
@@ -54,12 +51,13 @@ impl Written for Node {
     ghost line = { node_line };
 
     fn write(self, text: &mut [u8], at: usize) -> usize {
-        write_triple(text, at, self.kind, self.a, self.b)
+        write_values(text, at, &[self.kind, self.a, self.b])
     }
 
     ghost from_bytes = { λ bytes x e. e };
 }
 
+// As many records as the count says, as the definitions read them (`records`).
 fn write_records<R: Written>(section: &[u8], count: usize, text: &mut [u8], at: usize) -> usize
     requires { Room text.old at (bytes_of R.line (records R.record_of record_width count section.now)) }
     ensures { Stored text.old at (bytes_of R.line (records R.record_of record_width count section.now)) text.new result }

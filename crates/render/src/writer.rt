@@ -5,10 +5,13 @@ ghost use Rattle.render.specs.Render.{sheet_of, Room, Stored, render_answer, ren
 
 use crate::emit::put_bytes;
 use crate::record::write_block;
-use crate::write_line::write_counts;
+use crate::write_line::write_values;
 use accept::check_table;
 use sheet::{COUNTS_NAMES, NODES_NAMES, STATES_NAMES, STEPS_NAMES};
 use table::{Accepted, Node, Refusal, State, Step};
+
+// No sheet of an accepted table has more bytes: so many are 32 states, 128 steps and 32 nodes with three digits a value and five a label.
+const MOST: usize = 2318;
 
 // The four blocks, one behind the other. Answers the length.
 fn write_sheet(table: &Accepted<'_>, text: &mut [u8]) -> usize
@@ -17,21 +20,20 @@ fn write_sheet(table: &Accepted<'_>, text: &mut [u8]) -> usize
 {
     let c = table.counts;
     let line = put_bytes(text, 0, &COUNTS_NAMES);
-    let second = write_counts(text, line, c);
+    let second = write_values(text, line, &[c.states, c.steps, c.nodes, c.props]);
     let third = write_block::<State>(&STATES_NAMES, table.states, c.states, text, second);
     let fourth = write_block::<Step>(&STEPS_NAMES, table.steps, c.steps, text, third);
     write_block::<Node>(&NODES_NAMES, table.nodes, c.nodes, text, fourth)
 }
 
-// The sheet is written into bytes of the writer's own, as many as the longest sheet of an accepted table needs, before the lent
-// buffer is touched.
+// The sheet is written into bytes of the writer's own, enough for each accepted table, before the lent buffer is touched.
 pub fn render_table(table: &[u8], out: &mut [u8]) -> Result<usize, Refusal>
     ensures value { result ≡ render_answer table.now out.old }
     ensures out_after { out.new ≡ render_buffer table.now out.old }
 {
     check_table(table)?;
     let accepted = Accepted::new(table);
-    let mut text = [0u8; 2318];
+    let mut text = [0u8; MOST];
     let length = write_sheet(&accepted, &mut text);
     if out.len() < length {
         return Err(Refusal::ShortBuffer);

@@ -7,7 +7,7 @@ use lib.ListN.{length, take, drop}
 use lib.Seq.{take_at, drop_at}
 use Rattle.table.specs.Table.{Table}
 use Rattle.ctl.specs.Reached.{strike}
-use Rattle.search.specs.declared.outcome.Outcome.TheVariants.{Found, None, Spent}
+use Rattle.search.specs.declared.outcome.Outcome.TheVariants.{Found}
 use Rattle.search.specs.Search.{Outcome, found, none, spent}
 use Rattle.search.specs.TableSearch.{list_of}
 use Rattle.search.specs.Answer.{outcome_of, list_after}
@@ -24,14 +24,3 @@ module _ (T : Table) (list after : List ℕ) where
       (λ j. (struck ∙ ap (strike T) (ap (take e) is ∙ take_at (list_of T m) rest e size)) j ++ (ap (drop e) is ∙ drop_at (list_of T m) rest e size) j)
   after_found (none d l) p c k e same is here front struck = absurd (let z : ◌≡◌ {A = ℕ} 0 1 = cc in omega arith)
   after_found (spent d l) p c k e same is here front struck = absurd (let z : ◌≡◌ {A = ℕ} 0 1 = cc in omega arith)
-
-  -- none and spent: nothing is written
-  pub after_none : (o : Outcome) (c k : ℕ) → None c k ≡ outcome_of o → after ≡ list_after T o list → after ≡ written_after T o list
-  after_none (found m q d l) c k same is = absurd (let z : ◌≡◌ {A = ℕ} 0 1 = cc in omega arith)
-  after_none (none d l) c k same is = is
-  after_none (spent d l) c k same is = absurd (let z : ◌≡◌ {A = ℕ} 0 1 = cc in omega arith)
-
-  pub after_spent : (o : Outcome) (c k : ℕ) → Spent c k ≡ outcome_of o → after ≡ list_after T o list → after ≡ written_after T o list
-  after_spent (found m q d l) c k same is = absurd (let z : ◌≡◌ {A = ℕ} 0 1 = cc in omega arith)
-  after_spent (none d l) c k same is = absurd (let z : ◌≡◌ {A = ℕ} 0 1 = cc in omega arith)
-  after_spent (spent d l) c k same is = is

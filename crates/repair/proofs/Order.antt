@@ -8,9 +8,8 @@ use lib.Dec.{leb}
 use lib.ListN.{length}
 use Rattle.table.specs.declared.refusal.Refusal.{Refusal}
 use Rattle.table.specs.declared.refusal.Refusal.TheVariants.{ShortBuffer}
-use Rattle.table.specs.Verdict.{Verdict}
+use Rattle.table.specs.Verdict.{Verdict, require}
 use Rattle.std.specs.Prelude.{Ok, Err}
-use Rattle.table.specs.Verdict.{require}
 use Rattle.table.specs.Buffer.{on_accepted}
 use Rattle.table.specs.Table.{table_of}
 use Rattle.table.specs.Accept.{table_verdict}

@@ -1,6 +1,6 @@
 -- A list that is struck step by step.
 use Prim.Native.Nat.{ℕ, ◌+◌, ◌≤◌, ◌<◌}
-use mathlib.Core.Path.{◌≡◌, refl, sym, ap, ◌∙◌}
+use mathlib.Core.Path.{◌≡◌, sym, ap, ◌∙◌}
 use mathlib.Core.Bool.{Bool, true, false, cond}
 use mathlib.Core.List.{List}
 use native.Mathlib.Omega.{arith}
@@ -16,9 +16,6 @@ pub record StruckBefore (T : Table) (list : List ℕ) (j : ℕ) (now : List ℕ)
   pub size : length now ≡ length list
   pub before : (i : ℕ) → i < j → get_or now i 0 ≡ get_or (strike T list) i 0
   pub behind : (i : ℕ) → j ≤ i → get_or now i 0 ≡ get_or list i 0
-
-pub struck_none : (T : Table) (list : List ℕ) → StruckBefore T list 0 list
-struck_none T list = record { size = refl; before = λ i h. absurd (omega arith); behind = λ i h. refl }
 
 module _ (T : Table) (list : List ℕ) (j : ℕ) (now : List ℕ) (b : StruckBefore T list j now) (inside : j < length T.steps) where
   at_j : (x : Bool) → is_reached T list (step_at T j).from ≡ x → get_or (strike T list) j 0 ≡ cond x (get_or list j 0) 0

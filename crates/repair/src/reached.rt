@@ -10,6 +10,9 @@ ghost use Rattle.repair.specs.Round.{Round};
 use events::Net;
 use table::Accepted;
 
+// That the list has a byte for each step is asked, here and of `strike_unreached`: a struct of table and list would be no plainer, since each clause would
+// take both out of it again.
+
 // The states that a kept step leaves.
 fn kept_states(table: &Accepted<'_>, list: &[u8]) -> u32
     requires { length list.now ≡ length (table_of table.now.bytes.now).steps }

@@ -10,9 +10,8 @@ use lib.ListN.{length, take, length-append}
 use Rattle.table.specs.declared.record.Step.{Step}
 use Rattle.table.specs.declared.refusal.Refusal.{Refusal}
 use Rattle.table.specs.declared.refusal.Refusal.TheVariants as refusal
-use Rattle.table.specs.Verdict.{Verdict}
+use Rattle.table.specs.Verdict.{Verdict, refusal_number}
 use Rattle.std.specs.Prelude.{Ok, Err}
-use Rattle.table.specs.Verdict.{refusal_number}
 use Rattle.table.specs.Table.{table_of, steps_of, step_at}
 use Rattle.table.specs.Accept.{all, step_fits, table_verdict}
 use Rattle.table.proofs.Facts.{accepted, step_within, header_accepted, records_accepted}

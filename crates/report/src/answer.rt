@@ -1,29 +1,31 @@
 // What is printed of each answer.
-ghost use Rattle.std.specs.Prelude.{◌≤◌, length};
-ghost use Rattle.table.specs.Table.{steps_of};
 ghost use Rattle.render.specs.Render.{Room, Stored};
 ghost use Rattle.report.specs.Report.{refused, found_text, answer_text};
 
+use crate::STEPS;
 use crate::lines::write_answer;
 use crate::steps::write_steps;
-use render::{put_bytes, put_field};
+use render::{put_bytes, write_values};
 use search::Outcome;
-use sheet::NEWLINE;
 use table::{Accepted, Refusal};
 
-#[tactic(auto, unfolding(sheet::specs::Form::line))]
 pub fn write_refused(out: &mut [u8], refusal: Refusal) -> usize
     requires { Room out.old 0 (refused refusal) }
     ensures { Stored out.old 0 (refused refusal) out.new result }
 {
     let number = u32::from(refusal);
     let at = put_bytes(out, 0, b"answer number\nrefused ");
-    put_field(out, at, number as usize, NEWLINE)
+    write_values(out, at, &[number as usize])
 }
 
-fn write_found(table: &Accepted<'_>, price: u32, choices: u64, list: &[u8], out: &mut [u8]) -> usize
-    requires list_room { length (steps_of table.now.bytes.now) ≤ length list.now }
-    requires room { Room out.old 0 (found_text table.now.bytes.now price choices list.now) }
+fn write_found(
+    table: &Accepted<'_>,
+    price: u32,
+    choices: u64,
+    list: &[u8; STEPS],
+    out: &mut [u8],
+) -> usize
+    requires { Room out.old 0 (found_text table.now.bytes.now price choices list.now) }
     ensures { Stored out.old 0 (found_text table.now.bytes.now price choices list.now) out.new result }
 {
     let third = write_answer(out, b"found ", choices as usize, price as usize);
@@ -34,11 +36,10 @@ fn write_found(table: &Accepted<'_>, price: u32, choices: u64, list: &[u8], out:
 pub fn write_result(
     table: &Accepted<'_>,
     answer: Result<Outcome, Refusal>,
-    list: &[u8],
+    list: &[u8; STEPS],
     out: &mut [u8],
 ) -> usize
-    requires list_room { length (steps_of table.now.bytes.now) ≤ length list.now }
-    requires room { Room out.old 0 (answer_text table.now.bytes.now answer list.now) }
+    requires { Room out.old 0 (answer_text table.now.bytes.now answer list.now) }
     ensures { Stored out.old 0 (answer_text table.now.bytes.now answer list.now) out.new result }
 {
     match answer {

@@ -10,21 +10,31 @@ ghost use Rattle.render.specs.Render.{Room, Stored};
 ghost use Rattle.report.specs.Report.{table_text, fit_text};
 
 use answer::{write_refused, write_result};
+use reader::LONGEST;
 use table::{Accepted, Refusal};
 
 // The most bytes that are taken.
-const MOST: usize = 4096;
+pub const MOST: usize = 4096;
+
+// Room for what is printed.
+pub const OUTPUT: usize = 2048;
 
 // The most choices that the search makes.
 const CAP: u64 = 1000000;
+
+// The most steps of an accepted table.
+const STEPS: usize = 128;
+
+// The work entries that are lent. A table that needs more is refused.
+const WORK: usize = 10000;
 
 fn report_table(table: &Accepted<'_>, out: &mut [u8]) -> usize
     requires { Room out.old 0 (table_text table.now.bytes.now) }
     ensures { Stored out.old 0 (table_text table.now.bytes.now) out.new result }
 {
-    let mut list = [0u8; 128];
-    let mut bytes = [0u8; 10000];
-    let mut words = [0u32; 10000];
+    let mut list = [0u8; STEPS];
+    let mut bytes = [0u8; WORK];
+    let mut words = [0u32; WORK];
     let answer = repair::repair(table.bytes, CAP, &mut list, &mut bytes, &mut words);
     write_result(table, answer, &list, out)
 }
@@ -38,7 +48,7 @@ pub fn fit_report(text: &[u8], out: &mut [u8]) -> usize
     if MOST < text.len() {
         return write_refused(out, Refusal::SheetForm);
     }
-    let mut table = [0u8; 580];
+    let mut table = [0u8; LONGEST];
     match reader::read(text, &mut table) {
         Ok(n) => {
             let accepted = Accepted::new(&table[..n]);

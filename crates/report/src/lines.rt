@@ -2,16 +2,13 @@
 ghost use Rattle.render.specs.Render.{Room, Stored};
 ghost use Rattle.report.specs.Report.{counted};
 
-use render::{put_bytes, put_field};
-use sheet::{NEWLINE, SPACE};
+use render::{put_bytes, write_values};
 
-#[tactic(auto, unfolding(sheet::specs::Form::line))]
 pub fn write_answer(text: &mut [u8], word: &[u8], choices: usize, price: usize) -> usize
     requires { Room text.old 0 (counted word.now choices price) }
     ensures { Stored text.old 0 (counted word.now choices price) text.new result }
 {
     let second = put_bytes(text, 0, b"answer choices price\n");
     let third = put_bytes(text, second, word);
-    let last = put_field(text, third, choices, SPACE);
-    put_field(text, last, price, NEWLINE)
+    write_values(text, third, &[choices, price])
 }

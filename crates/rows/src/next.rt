@@ -1,5 +1,5 @@
 // N, the AND over the steps out of a state of "struck, or the end has it", forward and back.
-ghost use Rattle.std.specs.Prelude.{◌≡◌, ◌<◌, ◌≤◌, true, false, get_or};
+ghost use Rattle.std.specs.Prelude.{◌≡◌, ◌≤◌, true, false, get_or};
 ghost use Rattle.rows.specs.Row.{known};
 ghost use Rattle.rows.specs.Rules.{ahead_at};
 ghost use Rattle.rows.specs.Words.{row_at, step_place};
@@ -13,15 +13,11 @@ pub fn ahead(targets: &[u32; 32], rows: &[u32; 130], set: u32, end: Row) -> Row
 {
     let mut yes = 0u32;
     let mut no = 0u32;
-    // Members are taken off, the lowest first: a `for` over all states would ask of each whether it is one.
-    let mut left = set;
-    while left != 0 {
-        let s = sets::lowest(left);
+    for s in sets::members_of(set) {
         let x = step_row(rows, s);
         let unmet = targets[s] & !(x.no | end.yes);
         yes = sets::insert_if(yes, s, unmet == 0);
         no = sets::insert_if(no, s, x.yes & end.no != 0);
-        left = sets::remove(left, s);
     }
     Row { yes, no }
 }

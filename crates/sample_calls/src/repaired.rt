@@ -5,7 +5,7 @@ use std::io;
 
 fn run_repair(rt: &impl Print, table: &[u8], cap: u64, sample: &str) -> io::Result<()> {
     let r = repair(table, cap);
-    print_repaired(rt, r.number, sample, r.choices, r.price, r.settled)
+    print_repaired(rt, sample, r)
 }
 
 pub fn run_repairs(rt: &impl Print) -> io::Result<()> {

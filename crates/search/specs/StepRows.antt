@@ -1,6 +1,7 @@
 -- The step rows of a closure, as the search reads and writes them.
-use Rattle.std.specs.Prelude.{ℕ, Bool, true, false, cond, not, ◌||◌, List, eqb, length, get_or, set}
-use Rattle.sets.specs.Member.{member, set_of}
+use Rattle.std.specs.Prelude.{ℕ, Bool, true, false, cond, not, ◌||◌, List, Option, eqb, ltb, length, get_or, set}
+use Rattle.std.specs.Bool.{then_some}
+use Rattle.sets.specs.Member.{member, set_of, lowest_of}
 use Rattle.table.specs.Table.{Table, step_at}
 use Rattle.ctl.specs.Levels.{tabulate}
 use Rattle.ctl.specs.Price.{struck_price}
@@ -10,6 +11,12 @@ module _ (T : Table) (rows : List ℕ) where
   -- step j is known neither way
   abbrev pub is_unsettled : ℕ → Bool
   is_unsettled j = not (step_settled rows (step_at T j))
+
+  -- the lowest such step, where there is one
+  abbrev pub lowest_unsettled : Option ℕ
+  lowest_unsettled =
+      let j : ℕ = lowest_of (length T.steps) is_unsettled in
+      then_some (ltb j (length T.steps)) j
 
   -- the prices of the steps that are known struck, added up
   abbrev pub rows_price : ℕ

@@ -3,7 +3,8 @@ ghost use Rattle.std.specs.Prelude.{◌≡◌};
 ghost use Rattle.search.specs.Finds.{beats};
 
 // All of it was tried: the price of the cheapest find, if there is one, and the choices made by then. The find's list stands in a buffer of the search's
-// own: the lent one is written once the search has ended.
+// own, which goes from try to try beside the price: the price by value, as in the definitions, the list in place. In one struct it would be copied at each
+// call, or lent with a price before and after. The caller's list is written once the search has ended.
 #[derive(Clone, Copy)]
 pub struct Passed {
     pub best: Option<u32>,

@@ -2,6 +2,7 @@
 ghost use Rattle.std.specs.Prelude.{◌≡◌, ◌≤◌};
 ghost use Rattle.search.specs.Counted.{counted};
 
+// That `made` is at most the cap is asked, and is no ghost field: the definition of the next count makes the same struct, and would have to prove it.
 #[derive(Clone, Copy)]
 pub struct Choices {
     pub made: u64,

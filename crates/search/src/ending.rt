@@ -7,7 +7,8 @@ use crate::best::{Cut, Passed};
 use crate::outcome::Outcome;
 use table::Accepted;
 
-// The cheapest find is written, where there is one and the cap was not reached.
+// The cheapest find is written, where there is one and the cap was not reached. The caller's list may be longer than the steps; that it is long
+// enough is asked, here, of `write_list` and of those who hand the list on: a struct of table and list would only be taken apart again.
 pub fn finish(
     table: &Accepted<'_>,
     walked: Result<Passed, Cut>,

@@ -1,25 +1,23 @@
 // The step rows of a closure, read and written step by step.
 ghost use Rattle.std.specs.Prelude.{◌≡◌, false, cond, ◌++◌, ◌≤◌, ◌<◌, length, drop};
-ghost use Rattle.sets.specs.Member.{lowest_of};
 ghost use Rattle.table.specs.Table.{table_of};
 ghost use Rattle.rows.specs.Steps.{step_bit};
-ghost use Rattle.search.specs.StepRows.{is_unsettled, rows_price, kept_bytes, with_step, changed_by};
+ghost use Rattle.search.specs.StepRows.{lowest_unsettled, rows_price, kept_bytes, with_step, changed_by};
 
 use rows::{is_known, is_settled, word_of};
 use table::{Accepted, Step};
 
-// The lowest step that is known neither way, or the number of steps.
+// The lowest step that is known neither way, where there is one.
 #[tactic(auto, using(crate::proofs::StepEnds::from_below))]
-pub fn lowest_unsettled(table: &Accepted<'_>, rows: &[u32; 130]) -> usize
-    ensures { result ≡ lowest_of (length (table_of table.now.bytes.now).steps) (is_unsettled (table_of table.now.bytes.now) rows.now) }
+pub fn lowest_unsettled(table: &Accepted<'_>, rows: &[u32; 130]) -> Option<usize>
+    ensures { result ≡ lowest_unsettled (table_of table.now.bytes.now) rows.now }
 {
-    let e = table.step_count();
-    for j in 0..e {
+    for j in 0..table.step_count() {
         if !is_settled(rows, table.step(j)) {
-            return j;
+            return Some(j);
         }
     }
-    e
+    None
 }
 
 // What a step costs, where it is known struck.

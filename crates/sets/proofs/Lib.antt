@@ -1,5 +1,5 @@
 pub mod Laws
 pub mod SetOf
-pub mod Collect
+pub mod Collecting
 pub mod Walk
 mod Words

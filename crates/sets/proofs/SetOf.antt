@@ -211,16 +211,6 @@ lowest_of-has (suc n) f h = go (f zero) refl h (lowest_of-has n (λ t. f (suc t)
     go true e h rest = e
     go false e h rest = rest (omega arith)
 
--- the lowest state is at most n
-pub lowest_of-le : (n : ℕ) (f : ℕ → Bool) → lowest_of n f ≤ n
-unfolding lowest_of
-lowest_of-le zero f = omega arith
-lowest_of-le (suc n) f = go (f zero) (lowest_of-le n (λ t. f (suc t)))
-  where
-    go : (b : Bool) → lowest_of n (λ t. f (suc t)) ≤ n → cond b 0 (suc (lowest_of n (λ t. f (suc t)))) ≤ suc n
-    go true h = omega arith
-    go false h = omega arith
-
 -- a state with the property is not below the lowest
 pub lowest_of_least : (n : ℕ) (f : ℕ → Bool) (s : ℕ) → f s ≡ true → lowest_of n f ≤ s
 lowest_of_least n f s e = le_of_suc-le-suc (lt_of_not-le (λ h. false≢true (sym (lowest_of_before n f s h) ∙ e)))

@@ -1,7 +1,12 @@
+// Sets of states, a bit for each of 32. A state is a plain number, and one from 32 on is in no set.
 #![tactic(auto)]
 
-ghost use Rattle.std.specs.Prelude.{◌≡◌, not, ◌&&◌, ◌||◌, eqb, ltb};
+ghost use Rattle.std.specs.Prelude.{◌≡◌, ◌≤◌, ◌<◌, ℕ, Bool, not, ◌&&◌, ◌||◌, eqb, ltb};
 ghost use Rattle.sets.specs.Member.{member, set_of, count_of, lowest_of};
+
+mod members;
+
+pub use members::{Members, members_of};
 
 // Whether the state s is in the set. No state from 32 on is.
 pub fn contains(set: u32, s: usize) -> bool
@@ -23,6 +28,21 @@ pub fn insert_if(set: u32, s: usize, yes: bool) -> u32
 {
     if yes {
         return insert(set, s);
+    }
+    set
+}
+
+// The states below n that pass a test. Counts and states are plain numbers here and above, with their bounds in the clauses: they are fields of records or
+// counted by loops, and a type of its own would be made anew at each call.
+#[tactic(auto, using(crate::proofs::Collecting::collect), unfolding(crate::specs::Member::set_of))]
+pub fn collect<F: Fn(usize) -> bool>(n: usize, test: F) -> u32
+    requires few { n ≤ 32 }
+    requires callable { (s : ℕ) → s < n → F.pre test s }
+    ensures { (P : ℕ → Bool) → ((s : ℕ) (b : Bool) → s < n → F.post test s b → b ≡ P s) → result ≡ set_of n P }
+{
+    let mut set = 0u32;
+    for s in 0..n {
+        set = insert_if(set, s, test(s));
     }
     set
 }
@@ -69,7 +89,7 @@ pub fn count(set: u32) -> u32
     u32::count_ones(set)
 }
 
-// The lowest state of the set, or 32 where it is empty.
+// The lowest state of the set, or 32 where it is empty. No Option: whoever asks has found a member already, and `members_of` gives them as Options.
 pub fn lowest(set: u32) -> usize
     ensures { result ≡ lowest_of 32 (member set) }
 {

@@ -68,7 +68,7 @@ exact_return {A = A} a =
       complete = λ b rest h. ap (λ (c : A). got c rest) h;
     }
 
--- fixed bytes, one by one: a byte that is there, another byte, and no byte
+-- fixed bytes, one by one: a byte that is there, and another byte
 pub exactly_step : (b : ℕ) (bs : List ℕ) (x : ℕ) (text : List ℕ) → b ≡ x → exactly (b ∷ bs) (x ∷ text) ≡ exactly bs text
 unfolding exactly
 exactly_step b bs x text e = rw (eq-eqb x b (sym e), exactly)
@@ -76,10 +76,6 @@ exactly_step b bs x text e = rw (eq-eqb x b (sym e), exactly)
 pub exactly_off : (b : ℕ) (bs : List ℕ) (x : ℕ) (text : List ℕ) → eqb x b ≡ false → exactly (b ∷ bs) (x ∷ text) ≡ broken
 unfolding exactly
 exactly_off b bs x text e = rw (e, exactly)
-
-pub exactly_short : (b : ℕ) (bs : List ℕ) → exactly (b ∷ bs) [] ≡ broken
-unfolding exactly
-exactly_short b bs = refl
 
 exactly_sound : (bs text : List ℕ) (u : Unit {0}) (rest : List ℕ) → exactly bs text ≡ got u rest → text ≡ bs ++ rest
 unfolding exactly

@@ -23,7 +23,8 @@ fn extends(max: usize, value: usize, b: u8) -> bool
     10 * value + (b - ZERO) as usize <= max
 }
 
-// A value of at most max, no leading zero, with the byte stop behind it, and the text behind that.
+// A value of at most max, no leading zero, with the byte stop behind it, and the text behind that. `str::parse` wants a &str that
+// ends where the number does, and takes a `+` and leading zeros.
 #[tactic(auto, unfolding(crate::specs::Parse::field, crate::specs::Parse::digits_up_to))]
 pub fn read_field(text: &[u8], max: usize, stop: u8) -> Option<(usize, &[u8])>
     requires { max ≤ 65535 }

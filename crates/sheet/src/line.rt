@@ -44,6 +44,7 @@ impl Line for State {
     }
 }
 
+// A step and a node differ in their fields' names alone, which no generic function can name.
 impl Line for Step {
     ghost parser = { step_parser };
 

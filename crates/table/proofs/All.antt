@@ -2,7 +2,7 @@
 use Prim.Native.Nat.{ℕ, zero, suc, ◌+◌, ◌<◌, suc-le-suc}
 use mathlib.Core.Path.{◌≡◌, refl, sym, ap, ap₂, subst, ◌∙◌}
 use mathlib.Core.Logic.{inl, inr}
-use mathlib.Core.Bool.{Bool, true, false, not, ◌&&◌, ◌||◌, and_assoc, or_assoc, false≢true}
+use mathlib.Core.Bool.{Bool, true, false, not, ◌&&◌, ◌||◌, or_assoc, false≢true}
 use mathlib.Core.List.{List, [], ◌∷◌, ◌++◌}
 use native.Mathlib.Nat.{add-zero, zero-lt-suc, not-suc-le-zero, le_of_suc-le-suc}
 use native.Mathlib.Omega.{arith}
@@ -27,11 +27,6 @@ module _ {ℓ} {A : Type ℓ} (p : A → Bool) where
   unfolding all
   at_all [] d f = refl
   at_all (x ∷ xs) d f = parts_and (p x) (all p xs) (f zero (zero-lt-suc (length xs))) (at_all xs d (λ i h. f (suc i) (suc-le-suc h)))
-
-  pub all_append : (xs ys : List A) → all p (xs ++ ys) ≡ all p xs && all p ys
-  unfolding all
-  all_append [] ys = refl
-  all_append (x ∷ xs) ys = ap (λ (b : Bool). p x && b) (all_append xs ys) ∙ sym (and_assoc (p x) (all p xs) (all p ys))
 
   -- a test that any element passes is passed at some index
   pub any_at : (xs : List A) (d : A) → any p xs ≡ true → (i : ℕ) × (i < length xs) × (p (get_or xs i d) ≡ true)

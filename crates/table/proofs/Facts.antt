@@ -14,7 +14,7 @@ use Rattle.table.specs.declared.record.Step.{Step}
 use Rattle.table.specs.declared.refusal.Refusal.TheVariants.{Length}
 use Rattle.std.specs.Prelude.{Ok}
 use Rattle.table.specs.Verdict.{require}
-use Rattle.table.specs.Table.{Table, table_of, counts_of, packed_length, header_width, record_width, state_width, step_width, node_width, states_part, steps_part, nodes_part, state_of, step_of, node_of, zero_state, zero_step, zero_node, state_at, step_at, node_at}
+use Rattle.table.specs.Table.{Table, table_of, counts_of, packed_length, header_width, record_width, state_width, step_width, node_width, states_part, steps_part, nodes_part, state_of, step_of, node_of, zero_state, zero_node, state_at, step_at, node_at}
 use Rattle.table.specs.Accept.{all, any, distinct, counts_fit, state_fits, is_initial, step_fits, node_fits, nodes_fit, records_verdict, table_verdict}
 use Rattle.table.specs.Facts.{Wellformed, Packed}
 use Rattle.table.proofs.Bools.{and_parts}
@@ -25,9 +25,6 @@ use Rattle.table.proofs.Verdicts.{then_accepted, require_accepted}
 -- the record that a section has at a number below the count is the table's record of that number
 pub state_read_lem : (bytes : List ℕ) (s : ℕ) → s < (counts_of bytes).states → state_of (drop (state_width * s) (states_part bytes)) ≡ state_at (table_of bytes) s
 state_read_lem bytes s h = sym (records_at state_of state_width (counts_of bytes).states (states_part bytes) s zero_state h)
-
-pub step_read_lem : (bytes : List ℕ) (j : ℕ) → j < (counts_of bytes).steps → step_of (drop (step_width * j) (steps_part bytes)) ≡ step_at (table_of bytes) j
-step_read_lem bytes j h = sym (records_at step_of step_width (counts_of bytes).steps (steps_part bytes) j zero_step h)
 
 pub node_read_lem : (bytes : List ℕ) (i : ℕ) → i < (counts_of bytes).nodes → node_of (drop (node_width * i) (nodes_part bytes)) ≡ node_at (table_of bytes) i
 node_read_lem bytes i h = sym (records_at node_of node_width (counts_of bytes).nodes (nodes_part bytes) i zero_node h)
@@ -170,19 +167,3 @@ pub record ReadStep (table : List ℕ) (j : ℕ) (x : Step) : Type 0 where
   pub here : x ≡ step_at (table_of table) j
   pub from_below : x.from < 32
   pub to_below : x.to < 32
-
-pub read_step : (table : List ℕ) → table_verdict table ≡ Ok tt → (j : ℕ) → j < length (table_of table).steps
-    → (section : List ℕ) → section ≡ steps_part table → (x : Step) → x ≡ step_of (drop (step_width * j) section) → ReadStep table j x
-read_step table ok j h section s x e =
-    let p = accepted table ok in
-    let T = p.table in
-    let count : j < (counts_of table).steps = omega (arith, p.steps_count) in
-    let here : x ≡ step_at (table_of table) j = e ∙ ap (λ (l : List ℕ). step_of (drop (step_width * j) l)) s ∙ step_read_lem table j count in
-    let f = T.from_state j h in
-    let t = T.to_state j h in
-    let n = T.few_states in
-    record {
-      here = here;
-      from_below = omega (arith, ap (λ (y : Step). y.from) here, f, n);
-      to_below = omega (arith, ap (λ (y : Step). y.to) here, t, n);
-    }

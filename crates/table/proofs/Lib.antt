@@ -12,3 +12,4 @@ pub mod Rows
 pub mod TargetSets
 pub mod Facts
 pub mod ReadNode
+pub mod FixpointKind

@@ -4,9 +4,8 @@ use mathlib.Core.Path.{◌≡◌, refl, sym}
 use mathlib.Core.Bool.{Bool, true, false, false≢true}
 use native.Mathlib.Omega.{arith}
 use Rattle.table.specs.declared.refusal.Refusal.{Refusal}
-use Rattle.table.specs.Verdict.{Verdict}
+use Rattle.table.specs.Verdict.{Verdict, require, ◌then◌}
 use Rattle.std.specs.Prelude.{Ok, Err}
-use Rattle.table.specs.Verdict.{require, ◌then◌}
 
 -- a refusal is no acceptance
 pub refused : (r : Refusal) → ◌≡◌ {A = Verdict} (Err r) (Ok tt) → ⊥

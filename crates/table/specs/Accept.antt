@@ -7,8 +7,7 @@ use Rattle.table.specs.declared.record.State.{State}
 use Rattle.table.specs.declared.record.Step.{Step}
 use Rattle.table.specs.declared.record.Node.{Node}
 use Rattle.table.specs.declared.refusal.Refusal.TheVariants.{Length, Counts as CountsRefused, StateRecord, NoInitial, StepEnd, RepeatedStep, NodeRecord, ListForm}
-use Rattle.table.specs.Verdict.{Verdict}
-use Rattle.table.specs.Verdict.{require, ◌then◌}
+use Rattle.table.specs.Verdict.{Verdict, require, ◌then◌}
 use Rattle.table.specs.Table.{Table, table_of, state_at, counts_of, packed_length, header_width}
 
 unfoldable pub all {ℓ} : {A : Type ℓ} → (A → Bool) → List A → Bool

@@ -1,7 +1,6 @@
 -- What a buffer that a caller hands over holds after a call.
-use Rattle.std.specs.Prelude.{ℕ, ◌≤◌, ◌<◌, ◌≡◌, List, ◌++◌, length, get_or, take, drop}
+use Rattle.std.specs.Prelude.{ℕ, ◌≤◌, ◌<◌, ◌≡◌, List, ◌++◌, length, get_or, take, drop, Ok, Err}
 use Rattle.table.specs.Verdict.{Verdict}
-use Rattle.std.specs.Prelude.{Ok, Err}
 
 -- what was written where the verdict accepts, else what it held
 abbrev pub on_accepted : {A : Type 0} → Verdict → A → A → A

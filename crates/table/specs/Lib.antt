@@ -2,7 +2,7 @@ pub mod Verdict
 pub mod Buffer
 pub mod Table
 pub mod Accept
-pub mod Second
+pub mod Family
 pub mod Operator
 pub mod Facts
 pub mod Rows

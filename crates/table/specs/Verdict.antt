@@ -23,8 +23,9 @@ refusal_number NoInitialKept = 12
 refusal_number RootFails = 13
 refusal_number UnreachedStep = 16
 
-abbrev pub verdict_number : Verdict → ℕ
-verdict_number (Ok tt) = 0
+-- the number of a verdict, or of an answer that gives something: 0 where nothing is refused
+abbrev pub verdict_number : {A : Type 0} → Result A Refusal → ℕ
+verdict_number (Ok x) = 0
 verdict_number (Err r) = refusal_number r
 
 -- refused, for this reason, unless the test holds

@@ -1,13 +1,13 @@
 // A packed table that passes every test, cut into its sections once.
-ghost use Rattle.std.specs.Prelude.{◌≡◌, ℕ, ◌<◌, Ok};
-ghost use Rattle.table.specs.Table.{counts_of, states_part, steps_part, nodes_part, table_of, step_at};
+ghost use Rattle.std.specs.Prelude.{◌≡◌, ℕ, ◌<◌, Ok, length};
+ghost use Rattle.table.specs.Table.{counts_of, states_part, steps_part, nodes_part, table_of, state_at, step_at, node_at};
 ghost use Rattle.table.specs.Accept.{table_verdict};
 
 use crate::counts::{Counts, counts_of};
 use crate::record::{Node, State, Step, record_at};
 use crate::section::sections_of;
 
-// Whoever is handed one need not ask again whether the table is accepted.
+// Whoever is handed one need not ask again whether the table is accepted. The sections stand here one by one: in `Sections`, each use would name that first.
 #[derive(Clone, Copy)]
 pub struct Accepted<'a> {
     pub bytes: &'a [u8],
@@ -24,9 +24,6 @@ pub struct Accepted<'a> {
 }
 
 impl<'a> Accepted<'a> {
-    ghost use Rattle.std.specs.Prelude.{length};
-    ghost use Rattle.table.specs.Table.{table_of, state_at, step_at, node_at};
-
     pub fn new(bytes: &'a [u8]) -> Accepted<'a>
         requires { table_verdict bytes.now ≡ Ok tt }
         ensures { result.bytes.now ≡ bytes.now }

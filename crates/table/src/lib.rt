@@ -15,7 +15,7 @@ mod width;
 
 pub use accepted::Accepted;
 pub use counts::{Counts, counts_of, packed_length};
-pub use operator::{Family, Operator, Quantifier, second_child};
+pub use operator::{Family, Operator, Quantifier, family_of, second_child};
 pub use record::{Node, State, Step, record_at};
 pub use refusal::{Refusal, verdict_number};
 pub use section::{Sections, sections_of};

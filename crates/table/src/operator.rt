@@ -1,6 +1,6 @@
 // What a node says of its children: its kind read as an operator.
 ghost use Rattle.std.specs.Prelude.{◌≡◌};
-ghost use Rattle.table.specs.Second.{second_of};
+ghost use Rattle.table.specs.Family.{family_of, second_of};
 ghost use Rattle.table.specs.Operator.{quantifier_at, operator_of};
 
 use crate::record::Node;
@@ -21,7 +21,7 @@ pub enum Quantifier {
     Some,
 }
 
-// The children stand by their numbers. A fixed point has two: level 0 is the set of the second. The one child of F and G stands in both places.
+// The children stand by their numbers, as in the table that the caller lends: there is no heap to hold a tree. A fixed point has two: level 0 is the set of the second. The one child of F and G stands in both places.
 #[derive(Clone, Copy)]
 pub enum Operator {
     Constant(bool),
@@ -47,16 +47,13 @@ impl From<Node> for Operator {
             4 => Operator::Conjunction(a, b),
             5 => Operator::Disjunction(a, b),
             6 | 7 => Operator::Next(q, a),
-            8 | 9 => Operator::Fixpoint(Family::Release, q, a, b),
-            10 | 11 => Operator::Fixpoint(Family::Until, q, a, b),
-            12 | 13 => Operator::Fixpoint(Family::Eventually, q, a, a),
-            14 | 15 => Operator::Fixpoint(Family::Always, q, a, a),
+            8..=15 => Operator::Fixpoint(family_of(x.kind), q, a, second_child(x)),
             _ => Operator::Constant(false),
         }
     }
 }
 
-// From kind 6 on, an even kind is of every path and an odd one of some path.
+// From kind 6 on, an even kind is of every path and an odd one of some path. No `From`: a number is not always a kind that has a quantifier.
 fn quantifier_of(kind: usize) -> Quantifier
     ensures { result ≡ quantifier_at kind }
 {
@@ -67,8 +64,20 @@ fn quantifier_of(kind: usize) -> Quantifier
     }
 }
 
-// The child whose set is level 0: of kinds 12 to 15, which have one child, that one. By the number: a match on the operator has six arms, and three of
-// them have no second child to give.
+// The family of a kind from 8 on. No `From`, as above; a number below 8 or above 15 gets one too.
+pub fn family_of(kind: usize) -> Family
+    ensures { result ≡ family_of kind }
+{
+    match kind {
+        ..10 => Family::Release,
+        10 | 11 => Family::Until,
+        12 | 13 => Family::Eventually,
+        _ => Family::Always,
+    }
+}
+
+// The child whose set is level 0: of kinds 12 to 15, which have one child, that one. By the number: of the operators four have no second child to
+// give.
 pub fn second_child(x: Node) -> usize
     ensures { result ≡ second_of x }
 {

@@ -36,6 +36,7 @@ impl From<[u8; 3]> for State {
     }
 }
 
+// As for a node below: the fields' names differ, and a generic function cannot name fields.
 impl From<[u8; 3]> for Step {
     ghost from_gives = { λ bytes x. x ≡ step_of bytes };
 

@@ -29,12 +29,12 @@ impl From<Refusal> for u32 {
     }
 }
 
-// 0 for accepted, else the refusal's number. No `From`, for neither Result nor u32 is a type of this crate.
-pub fn verdict_number(verdict: Result<(), Refusal>) -> u32
-    ensures { result ≡ verdict_number verdict }
+// 0 where nothing is refused, else the refusal's number. No `From`, for neither Result nor u32 is a type of this crate.
+pub fn verdict_number<T: Copy>(answer: Result<T, Refusal>) -> u32
+    ensures { result ≡ verdict_number answer }
 {
-    match verdict {
-        Ok(()) => 0,
+    match answer {
+        Ok(_) => 0,
         Err(refusal) => u32::from(refusal),
     }
 }

@@ -1,4 +1,5 @@
-// The sections of a packed table, as parts of the caller's slice.
+// The sections of a packed table, as parts of the caller's slice. Whoever goes through one is handed its count too: of any bytes a section may be cut
+// short, and what is missing reads as zeros.
 ghost use Rattle.std.specs.Prelude.{◌≡◌};
 ghost use Rattle.table.specs.Table.{states_part, steps_part, nodes_part};
 

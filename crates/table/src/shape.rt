@@ -2,7 +2,8 @@
 ghost use Rattle.std.specs.Prelude.{◌≡◌};
 ghost use Rattle.table.specs.Accept.{shape_of};
 
-// What the fields a and b of a kind are: unused, a proposition, one child or two.
+// What the fields a and b of a kind are: unused, a proposition, one child or two. `Unknown` is no Option: the definitions' list of shapes ends in it, and
+// of each shape, this one too, it is said which fields fit.
 #[derive(Clone, Copy)]
 pub enum Shape {
     Constant,

@@ -1,33 +1,31 @@
 // Sets read off the state records.
-ghost use Rattle.std.specs.Prelude.{◌≡◌, ◌≤◌};
+ghost use Rattle.std.specs.Prelude.{◌≡◌, ◌≤◌, ◌||◌, ℕ, eqb};
+ghost use Rattle.sets.specs.Member.{member, set_of};
 ghost use Rattle.table.specs.StateSets.{initial_word, labelled_word};
 
 use crate::record::{State, record_at};
 
-#[tactic(auto, using(sets::proofs::Collect::collect), unfolding(sets::specs::Member::set_of))]
 pub fn initial_states(states: &[u8], n: usize) -> u32
     requires { n ≤ 32 }
     ensures { result ≡ initial_word states.now n }
 {
-    let mut set = 0u32;
-    for s in 0..n {
-        let x: State = record_at(states, s);
-        set = sets::insert_if(set, s, x.initial == 1);
-    }
-    set
+    sets::collect(n, |s| record_at::<State>(states, s).initial == 1)
 }
 
-// This loop and the one above differ in the test alone. A test as a parameter would bring its own clauses into both contracts.
-// The states that have proposition p in their label. The label meets the set of p alone or not: no branch in the loop hangs on its bits.
+// Whether p is in a set, where `only` is the set of p alone: no branch hangs on the set's bits.
+fn has_only(set: u32, only: u32) -> bool
+    ensures { (p : ℕ) → only ≡ set_of 32 (λ t. member 0 t || eqb t p) → result ≡ member set p }
+{
+    sets::intersection(set, only) != 0
+}
+
+// The states that have proposition p in their label.
 pub fn labelled_states(states: &[u8], n: usize, p: usize) -> u32
     requires { n ≤ 32 }
     ensures { result ≡ labelled_word states.now n p }
 {
     let only = sets::insert(0, p);
-    let mut set = 0u32;
-    for s in 0..n {
-        let x: State = record_at(states, s);
-        set = sets::insert_if(set, s, sets::intersection(x.label as u32, only) != 0);
-    }
-    set
+    sets::collect(n, |s| {
+        has_only(record_at::<State>(states, s).label as u32, only)
+    })
 }

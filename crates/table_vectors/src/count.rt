@@ -19,7 +19,7 @@ pub struct Tally {
     pub by_number: [Count; 16],
     pub all: Count,
     pub variables: Count,
-    // a line was out of form, and nothing more is read
+    // a line was out of form, and nothing more is read: a flag and no Err, since the counts before it are printed too
     pub broken: bool,
 }
 

@@ -25,8 +25,8 @@ fn space() -> [u8; 262144]
     [0; 262144]
 }
 
-// Reads until the text is full or the input ends, and answers how many bytes stand at its front. The program `fit` reads so too: a crate for these lines
-// alone would be one more to prove.
+// Reads until the text is full or the input ends, and answers how many bytes stand at its front. The program `fit` has the same lines: a crate for these
+// ten would be longer than they are.
 fn read_full(stdin: &mut Stdin, text: &mut [u8]) -> io::Result<usize>
     ensures { ReadsAtMost result text.new }
 {

@@ -2,6 +2,7 @@
 ghost use Rattle.std.specs.Prelude.{◌<◌, IfSome};
 ghost use Rattle.std.specs.Counts.{IsPrefixLen};
 
+// A hex digit, in small letters: `char::to_digit` would take the capitals A to F too.
 fn digit(byte: u8) -> Option<u8>
     ensures { IfSome result (λ d. d < 16) }
 {
@@ -12,7 +13,8 @@ fn digit(byte: u8) -> Option<u8>
     }
 }
 
-// The number in decimal digits, of at most six. None where a byte is no such digit.
+// The number in decimal digits, below 1,000,000. None where it is not below that, or a byte is no such digit. `str::parse` wants a &str,
+// and takes a `+` and larger numbers.
 pub fn number_of(text: &[u8]) -> Option<usize> {
     let mut value: usize = 0;
     for byte in text {
@@ -25,7 +27,8 @@ pub fn number_of(text: &[u8]) -> Option<usize> {
     Some(value)
 }
 
-// The bytes that the text has in pairs of hex digits, into out, and how many. Stops at what is no digit, and where out is full.
+// The bytes that the text has in pairs of hex digits, into out, and how many. Stops at what is no digit, and where out is full: so they are counted as they
+// come.
 pub fn bytes_of(text: &[u8], out: &mut [u8]) -> usize
     ensures { IsPrefixLen result out.new }
 {

@@ -1,13 +1,30 @@
 // Reading a line of the input and running it.
 use crate::count::Tally;
 use crate::text::{bytes_of, number_of};
+use table::Refusal;
 
-// The first byte of the kind's name, the expected number, and the count.
+// What the bytes of a line are.
+#[derive(Clone, Copy)]
+enum Kind {
+    Table,
+    List,
+}
+
+// The first byte of its name tells the kind.
+fn kind_of(name: &[u8]) -> Option<Kind> {
+    match name.first()? {
+        b't' => Some(Kind::Table),
+        b'l' => Some(Kind::List),
+        _ => None,
+    }
+}
+
+// The kind, the expected number, and the count where there is one.
 #[derive(Clone, Copy)]
 struct Expected {
-    kind: u8,
+    kind: Kind,
     number: usize,
-    count: usize,
+    count: Option<usize>,
 }
 
 // The check, and of an accepted table its variables.
@@ -15,13 +32,18 @@ fn run_table(t: &mut Tally, e: Expected, table: &[u8]) -> Option<()> {
     let number = table::verdict_number(accept::check_table(table));
     t.add_vector(e.number, number as usize == e.number)?;
     if e.number == 0 {
-        t.add_variables(circuit::variable_count(table) == e.count);
+        t.add_variables(Some(circuit::variable_count(table)) == e.count);
     }
     Some(())
 }
 
+// No list is of the form where there is no count of steps.
 fn run_list(t: &mut Tally, e: Expected, list: &[u8]) -> Option<()> {
-    let number = table::verdict_number(accept::check_list(list, e.count));
+    let verdict = match e.count {
+        Some(steps) => accept::check_list(list, steps),
+        None => Err(Refusal::ListForm),
+    };
+    let number = table::verdict_number(verdict);
     t.add_vector(e.number, number as usize == e.number)
 }
 
@@ -33,19 +55,18 @@ fn run_bytes(t: &mut Tally, e: Expected, text: &[u8]) -> Option<()> {
         return None;
     }
     match e.kind {
-        b't' => run_table(t, e, &space[..n]),
-        b'l' => run_list(t, e, &space[..n]),
-        _ => None,
+        Kind::Table => run_table(t, e, &space[..n]),
+        Kind::List => run_list(t, e, &space[..n]),
     }
 }
 
-// None where the line is out of form. What is no count is more than any table or list has.
+// None where the line is out of form.
 fn run_line(t: &mut Tally, line: &[u8]) -> Option<()> {
     let mut fields = line.splitn(4, |byte| *byte == b'\t');
     let e = Expected {
-        kind: *fields.next()?.first()?,
+        kind: kind_of(fields.next()?)?,
         number: number_of(fields.next()?)?,
-        count: number_of(fields.next()?).unwrap_or(usize::MAX),
+        count: number_of(fields.next()?),
     };
     run_bytes(t, e, fields.next()?)
 }

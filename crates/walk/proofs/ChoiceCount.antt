@@ -5,17 +5,10 @@ use mathlib.Core.Path.{◌≡◌, refl}
 use mathlib.Core.Bool.{Bool, true, false}
 use lib.Dec.{eqb}
 use Rattle.search.specs.declared.choices.Choices.{Choices}
-use Rattle.std.specs.Prelude.{Some, None}
+use Rattle.std.specs.Prelude.{Some}
 use Rattle.search.specs.Counted.{counted_if, counted}
 
 module _ (c : Choices) where
-  pub counted-cap : None ≡ counted c → eqb c.made c.cap ≡ true
-  counted-cap = go (eqb c.made c.cap)
-    where
-      go : (b : Bool) → None ≡ counted_if b c → b ≡ true
-      go true e = refl
-      go false e = let z : ◌≡◌ {A = ℕ} 0 1 = cc in absurd (omega arith)
-
   pub counted_next : (d : Choices) → Some d ≡ counted c → (eqb c.made c.cap ≡ false) × (d ≡ record { made = c.made + 1; cap = c.cap })
   counted_next d = go (eqb c.made c.cap)
     where

@@ -1,6 +1,6 @@
 -- What the code learns of a closure that it worked out: whether it clashes, and else what its marks know of the steps.
 use Prim.Native.Nat.{ℕ, ◌<◌}
-use mathlib.Core.Path.{◌≡◌, refl, sym, ◌∙◌}
+use mathlib.Core.Path.{◌≡◌, refl, sym, ap, ◌∙◌}
 use mathlib.Core.Bool.{Bool, true, false, not, false≢true}
 use mathlib.Core.Logic.{◌↔◌}
 use mathlib.Core.List.{List}
@@ -39,9 +39,9 @@ module _ (T : Table) (wf : Wellformed T) (P : List (Literal ℕ)) (fine : Fine (
       (λ k. marks.1 (rows.0 k), λ k. rows.1 (marks.0 k))
 
 -- it fails where there is no number
-pub failed_by : (c : Option ℕ) → is_failed c ≡ not (is_some c)
-failed_by None = refl
-failed_by (Some k) = refl
+pub failed_by : (c : Option ℕ) {x y : Bool} → is_some c ≡ not x → x ≡ y → is_failed c ≡ not (not y)
+failed_by None p q = ap not p ∙ ap (λ (x : Bool). not (not x)) q
+failed_by (Some k) p q = ap not p ∙ ap (λ (x : Bool). not (not x)) q
 
 -- the number, 0 where it fails
 pub number_of : (c : Option ℕ) → unwrap_or c 0 ≡ settled_of c

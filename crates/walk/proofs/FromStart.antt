@@ -2,12 +2,15 @@
 use Prim.Native.Nat.{ℕ}
 use native.Mathlib.Omega.{arith}
 use mathlib.Core.Path.{◌≡◌, refl, sym, ap, subst, ◌∙◌}
+use mathlib.Core.Bool.{false}
 use mathlib.Core.List.{List, []}
 use Rattle.table.specs.Table.{Table}
+use Rattle.table.specs.Facts.{Wellformed}
 use Rattle.ctl.proofs.Tabulate.{length_tabulate}
+use Rattle.closure.specs.Closes.{Closes, is_failed}
 use Rattle.closure.specs.Closure.{settled_below}
-use Rattle.propagate.specs.Memory.{Memory}
-use Rattle.std.specs.Prelude.{Ok}
+use Rattle.propagate.specs.Memory.{Memory, memory}
+use Rattle.std.specs.Prelude.{Option, Ok}
 use Rattle.walk.specs.declared.reach.Reached.{Reached}
 use Rattle.walk.specs.declared.reach.Reached.TheVariants.{Ended, Unsettled}
 use Rattle.search.specs.Search.{unfound, search, answer_of}
@@ -15,7 +18,8 @@ use Rattle.search.specs.TableSearch.{table_search, search_under}
 use Rattle.search.specs.Answer.{outcome_of, list_after}
 use Rattle.search.specs.Finds.{Held, Unfound, Finished, finished, written, Gives}
 use Rattle.search.specs.Fine.{closure_of}
-use Rattle.walk.specs.Stands.{StandsAt, GoesOn, Resting, Somewhere, GivesFrom, Comes, walk_from, search_from}
+use Rattle.search.proofs.ClosureRight.{closure-is_right}
+use Rattle.walk.specs.Stands.{StandsAt, GoesOn, Resting, Somewhere, GivesFrom, Comes, ComesOf, walk_from, search_from}
 use Rattle.walk.proofs.Giving.{gives_same, gives-answer, gives_list}
 use Rattle.walk.proofs.WalkOn.{walk_passed, search_marked}
 use lib.ListN.{length}
@@ -39,26 +43,36 @@ module _ (T : Table) (cap : ℕ) where
     pub start_list : (list : List ℕ) → written (length T.steps) r bytes list ≡ list_after T (search_under T cap) list
     start_list list = gives_list T first (search_from T cap 0 [] unfound 0) bytes r list g ∙ sym (λ i. list_after T (as_search i) list)
 
-  module _ (M : Memory) (bytes : List ℕ) (reached : Reached) (comes : Comes T Unfound M bytes [] unfound reached) where
-    -- an end was reached
-    pub start_ended : (after : Held) → reached ≡ Ended after → Gives T (search_from T cap 0 [] unfound 0) bytes (Ok (record { best = after; made = 0 }))
-    start_ended after told = go (subst (Comes T Unfound M bytes [] unfound) told comes)
-      where
-        go : Comes T Unfound M bytes [] unfound (Ended after) → Gives T (search_from T cap 0 [] unfound 0) bytes (Ok (record { best = after; made = 0 }))
-        go (b', stores, same) = gives_same T bytes (Ok (record { best = after; made = 0 })) (same cap 0 0 (omega arith)) (stores, refl)
+module _ (T : Table) (wf : Wellformed T) (rows words : List ℕ) (c : Option ℕ) (before bytes : List ℕ) (reached : Reached) (gives : ComesOf T c Unfound rows before bytes reached)
+    (closes : Closes T [] c (memory rows words)) (rests : is_failed c ≡ false → Resting T (memory rows words)) where
+  abbrev M : Memory
+  M = memory rows words
 
-    -- or a step that is unsettled
-    module _ (k : ℕ) (told : reached ≡ Unsettled k) where
-      there : Comes T Unfound M bytes [] unfound (Unsettled k)
-      there = subst (Comes T Unfound M bytes [] unfound) told comes
+  comes : Comes T Unfound M bytes [] unfound reached
+  comes = gives words [] unfound (closure-is_right T wf).fine_none closes rests tt
 
-      pub start_stands : Resting T M × Somewhere (GoesOn T k M Unfound bytes)
-      start_stands = (there.3, ([], there.0, unfound, there.1))
+  -- an end was reached
+  pub start_ended : (cap : ℕ) (after : Held) → reached ≡ Ended after → Gives T (search_from T cap 0 [] unfound 0) bytes (Ok (record { best = after; made = 0 }))
+  start_ended cap after told = go (subst (Comes T Unfound M bytes [] unfound) told comes)
+    where
+      go : Comes T Unfound M bytes [] unfound (Ended after) → Gives T (search_from T cap 0 [] unfound 0) bytes (Ok (record { best = after; made = 0 }))
+      go (b', stores, same) = gives_same T bytes (Ok (record { best = after; made = 0 })) (same cap 0 0 (omega arith)) (stores, refl)
 
-      pub start_onward : (after : List ℕ) (r : Finished) → GivesFrom (GoesOn T k M Unfound bytes) T (λ R n b. walk_from T cap k R n b 0) after r
-          → Gives T (search_from T cap 0 [] unfound 0) after r
-      start_onward after r rest =
-          let s : StandsAt T k M.rows [] there.0 = there.1.stands in
-          gives_same T after r
-          (search_marked T cap 0 [] unfound 0 s.closed there.2 ∙ walk_passed T cap [] there.0 unfound 0 0 k (omega arith) (omega (arith, s.inside)) s.settled)
-          (rest [] there.0 unfound there.1)
+  -- or a step that is unsettled
+  module _ (k : ℕ) (told : reached ≡ Unsettled k) where
+    there : Comes T Unfound M bytes [] unfound (Unsettled k)
+    there = subst (Comes T Unfound M bytes [] unfound) told comes
+
+    pub start_rests : Resting T M
+    start_rests = there.3
+
+    pub start_stands : Somewhere (GoesOn T k M Unfound bytes)
+    start_stands = ([], there.0, unfound, there.1)
+
+    pub start_onward : (cap : ℕ) (after : List ℕ) (r : Finished) → GivesFrom (GoesOn T k M Unfound bytes) T (λ R n b. walk_from T cap k R n b 0) after r
+        → Gives T (search_from T cap 0 [] unfound 0) after r
+    start_onward cap after r rest =
+        let s : StandsAt T k M.rows [] there.0 = there.1.stands in
+        gives_same T after r
+        (search_marked T cap 0 [] unfound 0 s.closed there.2 ∙ walk_passed T cap [] there.0 unfound 0 0 k (omega arith) (omega (arith, s.inside)) s.settled)
+        (rest [] there.0 unfound there.1)

@@ -5,7 +5,7 @@ use native.Mathlib.Omega.{arith}
 use mathlib.Core.Path.{◌≡◌, refl, sym, ap, subst, ◌∙◌}
 use mathlib.Core.Bool.{Bool, true, false, cond}
 use mathlib.Core.List.{List, ◌++◌}
-use borrow.Author.Tests.{ltb-false}
+use borrow.Author.Tests.{ltb-false, lt-ltb, le-ltb}
 use lib.Dec.{ltb}
 use lib.ListN.{length, get_or, take, drop, replicate, length-append, length-drop, length-replicate, take-append-drop, get_or-append}
 use lib.Seq.{length-take-le, take_all, get_or-drop}
@@ -24,8 +24,21 @@ use Rattle.walk.proofs.SameWords.{words_between, words_rest}
 abbrev part_from : ℕ → List ℕ → List ℕ
 part_from from words = take (length words - from) (drop from words)
 
-abbrev whole_with : ℕ → List ℕ → List ℕ → List ℕ
+abbrev pub whole_with : ℕ → List ℕ → List ℕ → List ℕ
 whole_with from words after = take from words ++ (after ++ drop (length words - from) (drop from words))
+
+-- what the struck try is lent, when it came back as `after`
+abbrev pub left_words : ℕ → ℕ → List ℕ → List ℕ → List ℕ
+left_words levels from words after = cond (ltb from levels) (replicate (length (whole_with from words after)) 0) (whole_with from words after)
+
+-- by the way that it came there: filled with 0, or not
+pub left_zeroed : {levels from : ℕ} (mid after : List ℕ) {rest zeros : List ℕ} → rest ≡ zeros → zeros ≡ replicate (length (whole_with from mid after)) 0 → from < levels → rest ≡ left_words levels from mid after
+left_zeroed {levels} {from} mid after is zeroed h =
+    is ∙ zeroed ∙ sym (ap (λ (b : Bool). cond b (replicate (length (whole_with from mid after)) 0) (whole_with from mid after)) (lt-ltb from levels h))
+
+pub left_whole : {levels from : ℕ} (mid after : List ℕ) {rest : List ℕ} → rest ≡ whole_with from mid after → levels ≤ from → rest ≡ left_words levels from mid after
+left_whole {levels} {from} mid after is h =
+    is ∙ sym (ap (λ (b : Bool). cond b (replicate (length (whole_with from mid after)) 0) (whole_with from mid after)) (le-ltb from levels h))
 
 module _ {levels : ℕ} {words mid : List ℕ} {from : ℕ} (keeps : Keeps levels words mid from) where
   pub part_start : from ≤ length mid
@@ -72,7 +85,7 @@ module _ {levels : ℕ} {words mid : List ℕ} {from : ℕ} (keeps : Keeps level
     left_size true = length-replicate _ _ ∙ whole_length
     left_size false = whole_length
 
-    pub left_length : (rest : List ℕ) → rest ≡ cond (ltb from levels) (replicate (length (take from mid ++ (after ++ drop (length mid - from) (drop from mid)))) 0) (take from mid ++ (after ++ drop (length mid - from) (drop from mid)))
+    pub left_length : (rest : List ℕ) → rest ≡ left_words levels from mid after
         → length rest ≡ length words
     unfolding left
     left_length rest e = ap length e ∙ left_size (ltb from levels)
@@ -87,7 +100,7 @@ module _ {levels : ℕ} {words mid : List ℕ} {from : ℕ} (keeps : Keeps level
       left_lies false e Q b = words_between T rows words (whole_with from mid after) (left_agrees e) Q b
 
       module _ (rest : List ℕ)
-          (is : rest ≡ cond (ltb from levels) (replicate (length (take from mid ++ (after ++ drop (length mid - from) (drop from mid)))) 0) (take from mid ++ (after ++ drop (length mid - from) (drop from mid)))) where
+          (is : rest ≡ left_words levels from mid after) where
         pub left_between : (Q : List (Literal Var)) → Between T Q (memory rows words) → Between T Q (memory rows rest)
         unfolding left
         left_between Q b = subst (λ w. Between T Q (memory rows w)) (sym is) (left_lies (ltb from levels) refl Q b)

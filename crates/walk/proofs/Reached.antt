@@ -1,5 +1,5 @@
 -- What comes of the closure of P, by what the code learns of it.
-use Prim.Native.Nat.{ℕ, ◌≤◌, ◌<◌}
+use Prim.Native.Nat.{ℕ, ◌<◌}
 use native.Mathlib.Omega.{arith}
 use mathlib.Core.Path.{◌≡◌, sym, ap, ◌∙◌}
 use mathlib.Core.Bool.{Bool, true, false, not}
@@ -16,12 +16,13 @@ use Rattle.ctl.proofs.Tabulate.{length_tabulate}
 use Rattle.circuit.specs.Logic.{Literal}
 use Rattle.closure.specs.Closure.{Marks, mark_at, is_known, known, marked}
 use Rattle.propagate.specs.Memory.{Memory}
-use Rattle.std.specs.Prelude.{Option}
+use Rattle.std.specs.Prelude.{Option, None, Some}
 use Rattle.closure.specs.Closes.{step_known, is_failed, Closes}
 use Rattle.walk.specs.declared.reach.Reached.TheVariants.{Ended, Unsettled}
 use Rattle.search.specs.Search.{Best, find, undercuts}
 use Rattle.search.specs.TableSearch.{mark_price}
-use Rattle.search.specs.StepRows.{is_unsettled, rows_price, kept_bytes}
+use Rattle.search.specs.StepRows.{is_unsettled, lowest_unsettled, rows_price, kept_bytes}
+use Rattle.search.proofs.Lowest.{lowest_some, lowest_none}
 use Rattle.search.specs.Finds.{Held, Cheapest, beats, Stores}
 use Rattle.search.specs.Fine.{Fine, closure_of, step_literals}
 use Rattle.walk.specs.Stands.{Resting, Comes}
@@ -67,36 +68,42 @@ module _ (T : Table) (wf : Wellformed T) (P : List (Literal ℕ)) (fine : Fine (
     settled_before i h l = not-false _ (sym (unsettled_at i h) ∙ lowest_of_before (length T.steps) (is_unsettled T M.rows) i l)
 
     module _ (price : ℕ) (p : price ≡ rows_price T M.rows) (cheap : true ≡ beats price best)
-        (j : ℕ) (low : j ≡ lowest_of (length T.steps) (is_unsettled T M.rows)) where
-      -- it settles every step
-      pub comes_found : length T.steps ≤ j → (after : List ℕ) → after ≡ kept_bytes T M.rows ++ drop (length T.steps) bytes
-          → Comes T best M after P b (Ended (Cheapest price))
-      comes_found h after written = (
-        find m (mark_price T m),
-        (
-          p ∙ price_mark T M.rows m exact,
-          ap (take (length T.steps)) written ∙ take_at (kept_bytes T M.rows) (drop (length T.steps) bytes) (length T.steps) (length_tabulate (length T.steps) _) ∙ list_mark T M.rows m exact,
-        ),
-        λ cap i made l. search_marked T cap i P b made closed (same_price price p true cheap) ∙ walk_settled T cap P m b made i l (λ x k. settled_before x k (omega arith)),
-      )
+      where
+        low : ℕ
+        low = lowest_of (length T.steps) (is_unsettled T M.rows)
 
-      -- it leaves a step unsettled
-      pub comes_unsettled : j < length T.steps → Comes T best M bytes P b (Unsettled j)
-      comes_unsettled h = (
-        m,
-        record {
-          stands = record {
-            fine = fine;
-            new = new;
-            closed = closed;
-            exact = exact;
-            inside = h;
-            settled = λ i l. settled_before i (omega arith) (omega arith);
-            unsettled = not-true _ (sym (unsettled_at j h) ∙ ap (is_unsettled T M.rows) low ∙ lowest_of-has (length T.steps) (is_unsettled T M.rows) (omega arith));
-          };
-          between = closes.between;
-          stores = stores;
-        },
-        same_price price p true cheap,
-        rest e,
-      )
+        -- it settles every step
+        pub comes_found : None ≡ lowest_unsettled T M.rows → (after : List ℕ) → after ≡ kept_bytes T M.rows ++ drop (length T.steps) bytes
+            → Comes T best M after P b (Ended (Cheapest price))
+        comes_found none after written = (
+          find m (mark_price T m),
+          (
+            p ∙ price_mark T M.rows m exact,
+            ap (take (length T.steps)) written ∙ take_at (kept_bytes T M.rows) (drop (length T.steps) bytes) (length T.steps) (length_tabulate (length T.steps) _) ∙ list_mark T M.rows m exact,
+          ),
+          λ cap i made l. search_marked T cap i P b made closed (same_price price p true cheap) ∙ walk_settled T cap P m b made i l (λ x k. settled_before x k (let h = lowest_none (length T.steps) (is_unsettled T M.rows) none in omega arith)),
+        )
+
+        -- it leaves a step unsettled
+        pub comes_unsettled : (j : ℕ) → Some j ≡ lowest_unsettled T M.rows → Comes T best M bytes P b (Unsettled j)
+        comes_unsettled j some =
+            let known = lowest_some (length T.steps) (is_unsettled T M.rows) j some in
+            let here = known.0 in
+            let h = known.1 in (
+              m,
+              record {
+                stands = record {
+                  fine = fine;
+                  new = new;
+                  closed = closed;
+                  exact = exact;
+                  inside = h;
+                  settled = λ i l. settled_before i (omega arith) (omega (arith, here));
+                  unsettled = not-true _ (sym (unsettled_at j h) ∙ ap (is_unsettled T M.rows) here ∙ lowest_of-has (length T.steps) (is_unsettled T M.rows) (omega arith));
+                };
+                between = closes.between;
+                stores = stores;
+              },
+              same_price price p true cheap,
+              rest e,
+            )

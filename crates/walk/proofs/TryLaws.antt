@@ -18,7 +18,7 @@ use Rattle.closure.specs.Numbered.{numbered_clauses}
 use Rattle.closure.proofs.Grow.{closure_keeps}
 use Rattle.closure.proofs.Places.{numbered_inside}
 use Rattle.search.specs.declared.choices.Choices.{Choices}
-use Rattle.std.specs.Prelude.{Some, None, Ok, Err}
+use Rattle.std.specs.Prelude.{Some, Ok, Err}
 use Rattle.search.specs.declared.best.Passed.{Passed}
 use Rattle.search.specs.declared.best.Cut.{Cut}
 use Rattle.walk.specs.declared.reach.Reached.{Reached}
@@ -35,7 +35,7 @@ use Rattle.search.proofs.Stand.{Stands, fine_choice, stands_choice}
 use Rattle.search.proofs.ByNumber.{fine_within}
 use Rattle.search.proofs.ClosureRight.{closure-is_right}
 use Rattle.walk.proofs.Giving.{gives_same, gives_cut, gives-passed}
-use Rattle.walk.proofs.ChoiceCount.{counted-cap, counted_next}
+use Rattle.walk.proofs.ChoiceCount.{counted_next}
 use Rattle.walk.proofs.WalkOn.{walk_passed, walk_unsettled, search_marked, choose_capped, choose_next}
 use Rattle.walk.proofs.Fewer.{unsettled_steps, unsettled_falls}
 
@@ -70,16 +70,12 @@ module _ (T : Table) (wf : Wellformed T) (count : Choices) (j : ℕ) (rows : Lis
   pub try_fine : Fine (length T.steps) (record { sign = sign; var = j } ∷ P)
   try_fine = fine_choice (closure-is_right T wf) stands at.inside at.unsettled sign
 
-  -- at the cap
-  pub try_cut : None ≡ counted count → (b : Best) (bytes : List ℕ) → Gives T (tried b) bytes (Err (record { made = count.made }))
-  try_cut e b bytes = gives_same T bytes (Err (record { made = count.made })) (choose_capped T count.cap (suc j) chosen_literal P b count.made (counted-cap count e)) refl
-
   -- what was passed is within it
-  pub try_within : count.made ≤ count.cap → (b : Best) (bytes : List ℕ) (p : Passed) → Gives T (tried b) bytes (Ok p) → p.made ≤ count.cap
-  try_within h b bytes p g = go (eqb count.made count.cap) refl
+  pub try_within : count.made ≤ count.cap → (b : Best) (bytes : List ℕ) (r : Finished) → Gives T (tried b) bytes r → (p : Passed) → r ≡ Ok p → p.made ≤ count.cap
+  try_within h b bytes r g p told = go (eqb count.made count.cap) refl
     where
-      ended : tried b ≡ passed (gives-passed T (tried b) bytes p g).0 p.made
-      ended = (gives-passed T (tried b) bytes p g).1
+      ended : tried b ≡ passed (gives-passed T (tried b) bytes p (subst (Gives T (tried b) bytes) told g)).0 p.made
+      ended = (gives-passed T (tried b) bytes p (subst (Gives T (tried b) bytes) told g)).1
 
       go : (x : Bool) → eqb count.made count.cap ≡ x → p.made ≤ count.cap
       go true e = omega (arith, h, ap made (sym ended ∙ choose_capped T count.cap (suc j) chosen_literal P b count.made e))
@@ -154,13 +150,17 @@ module _ (T : Table) (count : Choices) (j : ℕ) (rows : List ℕ) (P : List (Li
   split : walk_from T count.cap j P m b count.made ≡ and_then kept_try (try_from T false count.cap j P)
   split = walk_unsettled T count.cap P m b count.made j at.inside at.unsettled
 
-  -- the kept try reached the cap
-  pub kept_cut : (bytes : List ℕ) (c : Cut) → Gives T kept_try bytes (Err c) → Gives T (walk_from T count.cap j P m b count.made) bytes (Err c)
-  kept_cut bytes c g = gives_same T bytes (Err c) split (gives_cut T kept_try (try_from T false count.cap j P) bytes c g)
+  module _ (bytes : List ℕ) (tried : Finished) (gives : Gives T kept_try bytes tried) where
+    -- the kept try reached the cap
+    pub kept_cut : (c : Cut) → tried ≡ Err c → Gives T (walk_from T count.cap j P m b count.made) bytes (Err c)
+    kept_cut c told = gives_same T bytes (Err c) split (gives_cut T kept_try (try_from T false count.cap j P) bytes c (subst (Gives T kept_try bytes) told gives))
 
-  -- or it passed, and the struck try comes after
-  pub kept_then : (bytes : List ℕ) (p : Passed) → Gives T kept_try bytes (Ok p) → (after : List ℕ) (r : Finished)
-      → ((b' : Best) → Stores T b' p.best bytes → Gives T (try_from T false count.cap j P b' p.made) after r) → Gives T (walk_from T count.cap j P m b count.made) after r
-  kept_then bytes p g after r rest =
-      let x = gives-passed T kept_try bytes p g in
-      gives_same T after r (split ∙ ap (λ (w : Walked). and_then w (try_from T false count.cap j P)) x.1) (rest x.0 x.2)
+    -- or it passed, and the struck try comes after
+    module _ (p : Passed) (told : tried ≡ Ok p) where
+      pub kept_passed : (b' : Best) × (kept_try ≡ passed b' p.made) × Stores T b' p.best bytes
+      kept_passed = gives-passed T kept_try bytes p (subst (Gives T kept_try bytes) told gives)
+
+      pub kept_then : (after : List ℕ) (r : Finished) → ((b' : Best) → Stores T b' p.best bytes → Gives T (try_from T false count.cap j P b' p.made) after r)
+          → Gives T (walk_from T count.cap j P m b count.made) after r
+      kept_then after r rest =
+          gives_same T after r (split ∙ ap (λ (w : Walked). and_then w (try_from T false count.cap j P)) kept_passed.1) (rest kept_passed.0 kept_passed.2)

@@ -1,6 +1,6 @@
 -- Words of 0: they know no level, so the rows with them still lie between the literals and their closure; and with rows of 0 nothing is known.
-use Prim.Native.Nat.{ℕ, ◌+◌, ◌*◌, ◌-◌, ◌≤◌, ◌<◌}
-use mathlib.Core.Path.{◌≡◌, refl, sym, ap, ◌∙◌}
+use Prim.Native.Nat.{ℕ, ◌+◌, ◌*◌, ◌-◌, ◌<◌}
+use mathlib.Core.Path.{◌≡◌, sym, ap, ◌∙◌}
 use mathlib.Core.Bool.{Bool, true, false, cond, false≢true}
 use mathlib.Core.List.Memᴰ
 use mathlib.Core.List.{List, []}
@@ -16,7 +16,7 @@ use Rattle.circuit.specs.Variables.{Var}
 use Rattle.rows.specs.Row.{known}
 use Rattle.rows.specs.Words.{row_at, step_place}
 use Rattle.ctl.specs.Rule.{operator_of}
-use Rattle.closure.specs.Knowledge.{Sized, second_child, level_row, level_base, level_total}
+use Rattle.closure.specs.Knowledge.{second_child, level_row, level_base}
 use Rattle.propagate.specs.Memory.{node_place, kept_place, memory}
 use Rattle.closure.specs.Closes.{Between}
 
@@ -81,11 +81,3 @@ none_between T n = record {
     none_level i m sign s true y = zero_row 130 (node_place (second_child (operator_of (node_at T i)))) sign s
     none_level i m sign s false true = zero_row 130 (node_place i) sign s
     none_level i m sign s false false = zero_row n _ sign s
-
-pub none_sized : (T : Table) (n : ℕ) → level_total T ≤ n → Sized T (memory (replicate 130 0) (replicate n 0))
-none_sized T n e = record {
-  rows_size = refl;
-  words_size = rw length-replicate (omega arith);
-  small_rows = λ k. rw (zeros 130 k) (omega arith);
-  small_words = λ k. rw (zeros n k) (omega arith);
-}

@@ -32,15 +32,14 @@ pub fn assess(
         return Reached::Ended(best);
     }
     let price = struck_price(&net.table, rows);
-    if undercuts(price, best) {
-        let j = lowest_unsettled(&net.table, rows);
-        if j < net.table.step_count() {
-            return Reached::Unsettled(j);
-        }
-        write_list(&net.table, rows, find);
-        return Reached::Ended(Some(price));
+    if !undercuts(price, best) {
+        return Reached::Ended(best);
     }
-    Reached::Ended(best)
+    if let Some(j) = lowest_unsettled(&net.table, rows) {
+        return Reached::Unsettled(j);
+    }
+    write_list(&net.table, rows, find);
+    Reached::Ended(Some(price))
 }
 
 // Works out the closure, and what it comes to. Unless it begins afresh, all is at rest but what reads the steps out of the changed states.

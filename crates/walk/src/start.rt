@@ -27,7 +27,8 @@ fn close_nothing(net: &Net<'_>, rows: &mut [u32; 130], words: &mut [u32]) -> Opt
     close(net, rows, words, None)
 }
 
-// All of the search: what is tried from the closure of nothing. The list of the cheapest find is left in `find`.
+// All of the search: what is tried from the closure of nothing. The list of the cheapest find is left in `find`. That the words have room for the levels is
+// asked, here and of the tries: they are lent in parts, and a struct of words and fact would be made anew for each.
 fn walk_table(
     net: &Net<'_>,
     rows: &[u32; 130],

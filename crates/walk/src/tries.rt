@@ -29,7 +29,7 @@ pub fn both_ways(
     ensures { GivesFrom (GoesOn (table_in net.now) j (memory rows.now words.old) best find.old) (table_in net.now) (λ P m b. walk_from (table_in net.now) count.cap j P m b count.made) find.new result }
 {
     let cap = count.cap;
-    let from = keep(words, net.levels);
+    let from = keep(words, net.bases.total);
     let first = one_way(
         net,
         rows,
@@ -41,7 +41,7 @@ pub fn both_ways(
         &mut words[from..],
         false,
     )?;
-    let fresh = from < net.levels;
+    let fresh = from < net.bases.total;
     if fresh {
         words.fill(0);
     }
@@ -50,7 +50,8 @@ pub fn both_ways(
     one_way(net, rows, j, false, count, first.best, find, words, fresh)
 }
 
-// Chooses step j kept or struck, and searches on. `sign` is the sign of the literal, and `fresh` says that no word of the levels is known.
+// Chooses step j kept or struck, and searches on. `sign` is the sign of the literal, and `fresh` says that no word of the levels is known: an
+// Option of the set of the state that changed, handed on in its place, would need a clause that it is that of step j.
 #[cycle(both_ways_one_way)]
 fn one_way(
     net: &Net<'_>,

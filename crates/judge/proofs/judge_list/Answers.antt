@@ -1,7 +1,7 @@
 -- `judge_list` meets its contract: each way out has decided the tests up to its own.
 use Prim.Native.Nat.{ℕ}
 use mathlib.Core.Path.{◌≡◌, sym, ap, ◌∙◌}
-use mathlib.Core.Bool.{Bool, true, false, not, ◌&&◌}
+use mathlib.Core.Bool.{Bool, true, not, ◌&&◌}
 use mathlib.Core.List.{List}
 use borrow.Author.Tests.{eq-eqb, ne_eqb}
 use lib.Dec.{eqb}
@@ -21,7 +21,7 @@ use Rattle.ctl.specs.Reached.{is_initial_kept}
 use Rattle.ctl.specs.Tests.{keeps_initial, leaves_reached, root_marked, judge_verdict}
 use Rattle.label.specs.declared.analysis.Analysis.{Analysis}
 use Rattle.label.specs.declared.room.Room.TheVariants.{Any}
-use Rattle.label.specs.Analysis.{analysis_verdict, sets_of}
+use Rattle.label.specs.Analysis.{analysis_verdict, analysis_of, sets_of}
 use Rattle.label.proofs.Order.{table_accepted}
 use Rattle.label.proofs.Ways.{way_refused, way_passed}
 use Rattle.judge.specs.Reached.{Least}
@@ -30,7 +30,13 @@ use Rattle.judge.proofs.ReachedStates.{reached_word}
 use Rattle.judge.proofs.Order.{last_tests, judge_order}
 use Rattle.judge.proofs.judge_list.Goals as goal
 
-module _ (table list : List ℕ) (ok : analysis_verdict true table list ≡ Ok tt) (a : Analysis) (e : a ≡ sets_of (table_of table) list) where
+module _ (table list : List ℕ) {a : Analysis} (way : Ok a ≡ analysis_of Any table list) where
+  ok : analysis_verdict true table list ≡ Ok tt
+  ok = (way_passed Any table list a way).0
+
+  e : a ≡ sets_of (table_of table) list
+  e = (way_passed Any table list a way).1
+
   wf : Wellformed (table_of table)
   wf = (accepted table (table_accepted true table list ok)).table
 
@@ -38,7 +44,7 @@ module _ (table list : List ℕ) (ok : analysis_verdict true table list ≡ Ok t
   left : judge_verdict table list ≡ last_tests (table_of table) list
   left = judge_order table list ∙ then_next (analysis_verdict true table list) _ ok
 
-  module _ (w : ℕ) (f : w ≡ set_of 32 (λ t. member a.initial t && member a.kept t)) where
+  module _ {w : ℕ} (f : w ≡ set_of 32 (λ t. member a.initial t && member a.kept t)) where
     starts_are : w ≡ set_of 32 (is_initial_kept (table_of table) list)
     starts_are =
         f ∙ set_of_cong 32 _ _ (λ s h. λ i.
@@ -60,18 +66,16 @@ module _ (table list : List ℕ) (ok : analysis_verdict true table list ≡ Ok t
     root_marks x g = root_word (table_of table) wf list w a.root x starts_are (ap (λ (x : Analysis). x.root) e) g
 
     -- with an initial state that is kept, 16 and 13 are left, and the set x decides 16
-    reached_left : eqb w 0 ≡ false → (r : ℕ) → Least a.rows w r → (x : ℕ) → x ≡ set_of 32 (λ t. member a.kept t && not (member r t))
-        → judge_verdict table list ≡ require UnreachedStep (eqb x 0) then require RootFails (root_marked (table_of table) list)
-    reached_left some r least x g =
-        left
-        ∙ then_next _ _ (ap (require NoInitialKept) (sym keeps ∙ ap not some))
-        ∙ ap (λ (b : Bool). require UnreachedStep b then require RootFails (root_marked (table_of table) list)) (sym (leaves r least x g))
+    module _ (some : ¬ (w ≡ 0)) {r : ℕ} (least : Least a.rows w r) {x : ℕ} (g : x ≡ set_of 32 (λ t. member a.kept t && not (member r t))) where
+      reached_left : judge_verdict table list ≡ require UnreachedStep (eqb x 0) then require RootFails (root_marked (table_of table) list)
+      reached_left =
+          left
+          ∙ then_next _ _ (ap (require NoInitialKept) (sym keeps ∙ ap not (ne_eqb w 0 some)))
+          ∙ ap (λ (b : Bool). require UnreachedStep b then require RootFails (root_marked (table_of table) list)) (sym (leaves r least x g))
 
-    -- with every kept state reached too, 13 is left, and the set y decides it
-    root_left : eqb w 0 ≡ false → (r : ℕ) → Least a.rows w r → (x : ℕ) → x ≡ set_of 32 (λ t. member a.kept t && not (member r t)) → eqb x 0 ≡ true
-        → (y : ℕ) → y ≡ set_of 32 (λ t. member w t && not (member a.root t)) → judge_verdict table list ≡ require RootFails (eqb y 0)
-    root_left some r least x g all y m =
-        reached_left some r least x g ∙ then_next _ _ (ap (require UnreachedStep) all) ∙ ap (require RootFails) (sym (root_marks y m))
+      -- with every kept state reached too, 13 is left, and the set y decides it
+      root_left : x ≡ 0 → {y : ℕ} → y ≡ set_of 32 (λ t. member w t && not (member a.root t)) → {b : Bool} → eqb y 0 ≡ b → require RootFails b ≡ judge_verdict table list
+      root_left all m told = sym (reached_left ∙ then_next _ _ (ap (require UnreachedStep) (eq-eqb x 0 all)) ∙ ap (require RootFails) (sym (root_marks _ m) ∙ told))
 
 pub returns-in_err-a : goal.returns-in_err-a
 returns-in_err-a c =
@@ -84,39 +88,24 @@ returns-in_err-a c =
 
 pub returns-then-starts-eq0 : goal.returns-then-starts-eq0
 returns-then-starts-eq0 c =
-    let k = way_passed Any c.args.table.now c.args.list.now c.in_ok-a.a (sym c.in_ok-a.was ∙ c.analyse.ensures) in
-    let starts = c.intersection-starts in
-    let none = sym (keeps _ _ k.0 c.in_ok-a.a k.1 starts.result starts.ensures) ∙ ap not (eq-eqb starts.result 0 c.if-starts-eq0.true) in
-    let refuses = ap (require NoInitialKept) none in
-    sym (left _ _ k.0 c.in_ok-a.a k.1 ∙ then_refused _ _ NoInitialKept refuses ∙ refuses)
+    let way = sym c.in_ok-a.was ∙ c.analyse.ensures in
+    let refuses = ap (require NoInitialKept) (sym (keeps _ _ way c.intersection-starts.ensures) ∙ ap not (eq-eqb _ 0 c.if-starts-eq0.true)) in
+    sym (left _ _ way ∙ then_refused _ _ NoInitialKept refuses ∙ refuses)
 
 pub returns-then-minus-ne0 : goal.returns-then-minus-ne0
 returns-then-minus-ne0 c =
-    let k = way_passed Any c.args.table.now c.args.list.now c.in_ok-a.a (sym c.in_ok-a.was ∙ c.analyse.ensures) in
-    let starts = c.intersection-starts in
-    let reached = c.reached_states-reached in
     let refuses = ap (require UnreachedStep) (ne_eqb c.minus.result 0 c.if-minus-ne0.true) in
     sym (
-    reached_left _ _ k.0 c.in_ok-a.a k.1 starts.result starts.ensures (ne_eqb starts.result 0 c.if-starts-eq0.false) reached.result reached.ensures c.minus.result c.minus.ensures
+    reached_left _ _ (sym c.in_ok-a.was ∙ c.analyse.ensures) c.intersection-starts.ensures c.if-starts-eq0.false c.reached_states-reached.ensures c.minus.ensures
     ∙ then_refused _ _ UnreachedStep refuses ∙ refuses
     )
 
 pub returns-then-minus-ne0-2 : goal.returns-then-minus-ne0-2
 returns-then-minus-ne0-2 c =
-    let k = way_passed Any c.args.table.now c.args.list.now c.in_ok-a.a (sym c.in_ok-a.was ∙ c.analyse.ensures) in
-    let starts = c.intersection-starts in
-    let reached = c.reached_states-reached in
-    let root =
-    root_left _ _ k.0 c.in_ok-a.a k.1 starts.result starts.ensures (ne_eqb starts.result 0 c.if-starts-eq0.false)
-    reached.result reached.ensures c.minus.result c.minus.ensures (eq-eqb c.minus.result 0 c.if-minus-ne0.false) c.minus-2.result c.minus-2.ensures in
-    sym (root ∙ ap (require RootFails) (ne_eqb c.minus-2.result 0 c.if-minus-ne0-2.true))
+    root_left _ _ (sym c.in_ok-a.was ∙ c.analyse.ensures) c.intersection-starts.ensures c.if-starts-eq0.false c.reached_states-reached.ensures c.minus.ensures c.if-minus-ne0.false
+    c.minus-2.ensures (ne_eqb c.minus-2.result 0 c.if-minus-ne0-2.true)
 
 pub returns : goal.returns
 returns c =
-    let k = way_passed Any c.args.table.now c.args.list.now c.in_ok-a.a (sym c.in_ok-a.was ∙ c.analyse.ensures) in
-    let starts = c.intersection-starts in
-    let reached = c.reached_states-reached in
-    let root =
-    root_left _ _ k.0 c.in_ok-a.a k.1 starts.result starts.ensures (ne_eqb starts.result 0 c.if-starts-eq0.false)
-    reached.result reached.ensures c.minus.result c.minus.ensures (eq-eqb c.minus.result 0 c.if-minus-ne0.false) c.minus-2.result c.minus-2.ensures in
-    sym (root ∙ ap (require RootFails) (eq-eqb c.minus-2.result 0 c.if-minus-ne0-2.false))
+    root_left _ _ (sym c.in_ok-a.was ∙ c.analyse.ensures) c.intersection-starts.ensures c.if-starts-eq0.false c.reached_states-reached.ensures c.minus.ensures c.if-minus-ne0.false
+    c.minus-2.ensures (eq-eqb c.minus-2.result 0 c.if-minus-ne0-2.false)

@@ -2,13 +2,9 @@
 use Prim.Native.Nat.{ℕ}
 use mathlib.Core.Path.{◌≡◌}
 use mathlib.Core.List.{List}
-use native.Mathlib.Omega.{arith}
 use Rattle.std.specs.Prelude.{Result}
 use Rattle.search.specs.declared.outcome.Outcome.{Outcome}
 use Rattle.table.specs.declared.refusal.Refusal.{Refusal}
-use Rattle.table.specs.Table.{counts_of, step_of, record_width, steps_part}
-use Rattle.table.proofs.Records.{records-length}
-use Rattle.table.proofs.Facts.{header_accepted, counts_within}
 use Rattle.render.proofs.Left.{room_as, stored_as}
 use Rattle.repair.specs.Outcome.{repair_answer, repair_list}
 use Rattle.report.specs.Report.{answer_text, zeros, cap, table_text}
@@ -23,13 +19,7 @@ unfolding table_text
 same_text table e p i = answer_text table (e i) (p i)
 
 pub write_result-requires : goal.write_result-requires
-write_result-requires c =
-    let table = c.args.table.now.bytes.now in
-    let few = (counts_within (counts_of table) (header_accepted table c.args.table.now.passes).0).few_steps in
-    record {
-      list_room = omega (arith, few, records-length step_of record_width (counts_of table).steps (steps_part table), c.repair-answer.auto.list);
-      room = room_as _ _ _ _ (same_text table c.repair-answer.ensures.value c.repair-answer.ensures.list_after) c.requires;
-    }
+write_result-requires c = room_as _ _ _ _ (same_text c.args.table.now.bytes.now c.repair-answer.ensures.value c.repair-answer.ensures.list_after) c.requires
 
 pub returns : goal.returns
 returns c = stored_as _ _ _ _ _ _ (same_text c.args.table.now.bytes.now c.repair-answer.ensures.value c.repair-answer.ensures.list_after) c.write_result.ensures

@@ -8,11 +8,9 @@ use Rattle.table.specs.Table.{Table}
 use Rattle.rows.specs.declared.row.Report.{Report}
 use Rattle.rows.specs.Words.{both_reports}
 use Rattle.propagate.specs.Memory.{Memory, ordered}
-use Rattle.propagate.proofs.Ordered.{going_down, going_up}
 use Rattle.events.specs.Looked.{Always, Looked}
 use Rattle.events.proofs.VisitAll.{Among, among_next, among_all, looked_failed}
 use Rattle.events.proofs.nodes.nodes_visit.Goals as goal
-use Rattle.events.proofs.nodes.nodes_visit.Goals.{then-down, else-down}
 
 -- what was looked at with one node more
 further : {T : Table} (down : Bool) (f k i : ℕ) → i ≡ ordered down f k → {looks looks' looks'' : List ℕ} {M N O : Memory} {r s t : Report}
@@ -25,24 +23,16 @@ returns-then-report c =
     let a = c.args in
     let l = c.loop-k in
     let f = c.node_count-f.result in
-    let i = c.if-down.i in
-    let turn : i ≡ ordered a.down f l.k = elim c.if-down.branch as (λ _. i ≡ ordered a.down f l.k) [
-      | then-down w ↦ going_down a.down f l.k i w.if-down.true w.i-is
-      | else-down w ↦ going_up a.down f l.k i w.if-down.false w.i-is
-    ] in
-    looked_failed c.if-report.true (further a.down f l.k i turn l.invariant c.node_visit.ensures c.both-report.ensures)
+    let i = c.in_order-i in
+    looked_failed c.if-report.true (further a.down f l.k i.result i.ensures l.invariant c.node_visit.ensures c.both-report.ensures)
 
 pub loop-k-preserved : goal.loop-k-preserved
 loop-k-preserved c =
     let a = c.args in
     let l = c.loop-k in
     let f = c.node_count-f.result in
-    let i = c.if-down.i in
-    let turn : i ≡ ordered a.down f l.k = elim c.if-down.branch as (λ _. i ≡ ordered a.down f l.k) [
-      | then-down w ↦ going_down a.down f l.k i w.if-down.true w.i-is
-      | else-down w ↦ going_up a.down f l.k i w.if-down.false w.i-is
-    ] in
-    further a.down f l.k i turn l.invariant c.node_visit.ensures c.both-report.ensures
+    let i = c.in_order-i in
+    further a.down f l.k i.result i.ensures l.invariant c.node_visit.ensures c.both-report.ensures
 
 pub returns : goal.returns
 returns c =

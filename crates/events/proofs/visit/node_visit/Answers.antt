@@ -7,7 +7,7 @@ use native.Mathlib.Omega.{arith}
 use lib.ListN.{length}
 use Rattle.table.specs.declared.record.Node.{Node}
 use Rattle.table.specs.Table.{node_at}
-use Rattle.table.specs.Second.{second_of}
+use Rattle.table.specs.Family.{second_of}
 use Rattle.ctl.proofs.OfKind.{second_below}
 use Rattle.rows.specs.declared.row.Row.{Row}
 use Rattle.rows.specs.Words.{row_at}
@@ -62,7 +62,7 @@ returns-then-is_quiet c =
     let a = c.args in
     let net = a.net.now in
     visit_calm net _ _ _ _ a.looks.now c.requires.sized c.told-looks a.i c.requires.i_below a.down c.node-x.result c.node-x.ensures
-    c.below-all.result c.below-all.ensures c.node_step-report.result (c.node_step-report.ensures net.bases refl) (sym c.is_quiet.ensures ∙ c.if-is_quiet.true)
+    c.below-all.result c.below-all.ensures c.node_step-report.result (c.node_step-report.ensures net.bases.at refl) (sym c.is_quiet.ensures ∙ c.if-is_quiet.true)
 
 pub note_node-requires : goal.note_node-requires
 note_node-requires c = low c.args.net.now c.args.i c.requires.i_below
@@ -88,7 +88,7 @@ returns c =
     let rows = a.rows.now in
     let rows' = c.node_step-report.new.rows in
     visit_loud net _ _ _ _ a.looks.now c.requires.sized c.told-looks a.i c.requires.i_below a.down x c.node-x.ensures
-    c.below-all.result c.below-all.ensures c.node_step-report.result (c.node_step-report.ensures net.bases refl) (sym c.is_quiet.ensures ∙ c.if-is_quiet.false)
+    c.below-all.result c.below-all.ensures c.node_step-report.result (c.node_step-report.ensures net.bases.at refl) (sym c.is_quiet.ensures ∙ c.if-is_quiet.false)
     b c.second_child-b.ensures put.new.words own.new.looks first.new.looks other.new.looks marks.new.looks
     put.ensures.raised put.ensures.added
     own.ensures.raised (since readers own.new.looks rows rows' a.i c.node_row-old.result c.node_row-old.ensures own.ensures.node_marked)

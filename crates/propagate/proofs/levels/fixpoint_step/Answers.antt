@@ -5,6 +5,7 @@ use mathlib.Core.Bool.{Bool, false}
 use mathlib.Core.List.{List}
 use native.Mathlib.Numerals.{add-one}
 use native.Mathlib.Omega.{arith}
+use Rattle.std.specs.Prelude.{None}
 use Rattle.rows.specs.declared.row.Report.{Report}
 use Rattle.rows.specs.Words.{both_reports}
 use Rattle.propagate.specs.declared.level.Fixpoint.{Fixpoint}
@@ -33,9 +34,7 @@ loop-k-init c = record {
   reached = ap (stepped c.args.rows.now c.args.words.now) (quiet_is c.default-report.result c.default-report.ensures);
   seen = λ i. record {
     look = c.args.look;
-    quiet = false;
-    level = record { yes = c.default.ensures.0 i; no = c.default.ensures.1 i };
-    below = record { yes = c.default-2.ensures.0 i; no = c.default-2.ensures.1 i };
+    quiet = None;
   };
 }
 

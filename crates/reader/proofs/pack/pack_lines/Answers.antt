@@ -14,7 +14,7 @@ use Rattle.reader.proofs.pack.pack_lines.Goals as goal
 pub returns-in_default : goal.returns-in_default
 returns-in_default g c =
     let i = c.loop-j in
-    let at = c.args.from + record_width * i.j in
+    let at = record_width * i.j in
     stored_broken g.R.Line.parser g.R.Packed.packed i.packed at (c.args.count - i.j) i.rest.now (sym c.in_default.ensures) ∙ i.invariant
 
 pub loop-j-preserved : goal.loop-j-preserved
@@ -24,7 +24,7 @@ loop-j-preserved g c =
     let f = g.R.Packed.packed in
     let x = c.in-Some.line.0 in
     let rest = c.in-Some.line.1.now in
-    let at = c.args.from + record_width * i.j in
+    let at = record_width * i.j in
     let width = at + record_width - at in
     let left = c.args.count - i.j in
     let new = c.copy_from_slice.new.self in
@@ -33,7 +33,7 @@ loop-j-preserved g c =
     let long : length new ≡ width = c.copy_from_slice.ensures.len ∙ length-take-le width (drop at i.packed) (omega (arith, length-drop at i.packed)) in
     let same : new ≡ f x = c.copy_from_slice.ensures.after ∙ c.bytes.ensures in
     let stored : after ≡ sets i.packed at (f x) = part_stored new i.packed at width long room ∙ ap (sets i.packed at) same in
-    let next : c.args.from + record_width * (i.j + 1) ≡ at + length (f x) = omega (arith, long, ap length same) in
+    let next : record_width * (i.j + 1) ≡ at + length (f x) = omega (arith, long, ap length same) in
     let fewer : c.args.count - (i.j + 1) ≡ left - 1 = omega arith in
     ap₂ (λ (to n : ℕ). lines_stored p f after to n rest) next fewer
     ∙ stored_next p f i.packed at left i.rest.now (omega (arith, c.loop-j-test.true)) x rest (sym c.in-Some.ensures) after stored
@@ -42,5 +42,5 @@ loop-j-preserved g c =
 pub returns : goal.returns
 returns g c =
     let i = c.loop-j in
-    let at = c.args.from + record_width * i.j in
+    let at = record_width * i.j in
     stored-all g.R.Line.parser g.R.Packed.packed i.packed at (c.args.count - i.j) i.rest.now (omega arith) ∙ i.invariant

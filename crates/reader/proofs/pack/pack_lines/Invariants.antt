@@ -1,5 +1,5 @@
 -- The loop's invariant: what is left to store makes of the buffer what all would make of it.
-use Prim.Native.Nat.{◌+◌, ◌-◌, ◌*◌}
+use Prim.Native.Nat.{◌-◌, ◌*◌}
 use mathlib.Core.Path.{◌≡◌}
 use Rattle.table.specs.Table.{record_width}
 use Rattle.reader.proofs.Packing.{lines_stored}
@@ -9,4 +9,4 @@ abbrev pub invariant-loop-j : goal.invariant-loop-j
 invariant-loop-j g l =
     let p = g.R.Line.parser in
     let f = g.R.Packed.packed in
-    lines_stored p f l.packed (l.from + record_width * l.j) (l.count - l.j) l.rest ≡ lines_stored p f l.initial.packed l.from l.count l.text
+    lines_stored p f l.packed (record_width * l.j) (l.count - l.j) l.rest ≡ lines_stored p f l.initial.packed 0 l.count l.text

@@ -4,7 +4,7 @@ use mathlib.Core.Path.{◌≡◌}
 use mathlib.Core.Bool.{true}
 use mathlib.Core.List.{List}
 use lib.ListN.{get_or}
-use Rattle.sets.specs.Member.{member, count_of}
+use Rattle.sets.specs.Member.{member}
 use Rattle.sets.proofs.Walk.{Left}
 use Rattle.readers.specs.Readers.{Raised}
 use Rattle.readers.proofs.MarkLaws.{Gone}
@@ -14,8 +14,5 @@ use Rattle.readers.proofs.marking.raise.Given as goal
 abbrev pub Has : List ℕ → ℕ → ℕ → Type 0
 Has looks set i = (s : ℕ) → member set s ≡ true → member (get_or looks i 0) s ≡ true
 
-abbrev pub invariant-loop-left : goal.invariant-loop-left
-invariant-loop-left l = Left l.nodes l.left × Raised l.initial.looks l.looks × Gone l.nodes l.left (Has l.looks l.set)
-
-abbrev pub decreases-loop-left : goal.decreases-loop-left
-decreases-loop-left l = count_of 32 (member l.left)
+abbrev pub invariant-loop-i : goal.invariant-loop-i
+invariant-loop-i l = Left l.nodes l.i-iterator.left × Raised l.initial.looks l.looks × Gone l.nodes l.i-iterator.left (Has l.looks l.set)

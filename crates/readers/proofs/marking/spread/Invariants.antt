@@ -4,7 +4,7 @@ use mathlib.Core.Path.{◌≡◌}
 use mathlib.Core.Bool.{true}
 use mathlib.Core.List.{List}
 use lib.ListN.{get_or}
-use Rattle.sets.specs.Member.{member, count_of}
+use Rattle.sets.specs.Member.{member}
 use Rattle.sets.proofs.Walk.{Left}
 use Rattle.readers.proofs.MarkLaws.{Gone}
 use Rattle.readers.proofs.marking.spread.Given as goal
@@ -13,8 +13,8 @@ use Rattle.readers.proofs.marking.spread.Given as goal
 abbrev pub Spread : List ℕ → ℕ → ℕ → Type 0
 Spread readers all t = (s : ℕ) → member (get_or readers t 0) s ≡ true → member all s ≡ true
 
-abbrev pub invariant-loop-left : goal.invariant-loop-left
-invariant-loop-left l = Left l.set l.left × ((t : ℕ) → member l.set t ≡ true → member l.all t ≡ true) × Gone l.set l.left (Spread l.readers l.all)
-
-abbrev pub decreases-loop-left : goal.decreases-loop-left
-decreases-loop-left l = count_of 32 (member l.left)
+abbrev pub invariant-loop-t : goal.invariant-loop-t
+invariant-loop-t l =
+    Left l.set l.t-iterator.left
+    × ((t : ℕ) → member l.set t ≡ true → member l.all t ≡ true)
+    × Gone l.set l.t-iterator.left (Spread l.readers l.all)

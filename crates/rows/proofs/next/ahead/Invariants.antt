@@ -6,7 +6,7 @@ use mathlib.Core.Bool.{Bool, not, ◌&&◌}
 use lib.Bits.{bit_and}
 use lib.Dec.{eqb}
 use lib.ListN.{get_or}
-use Rattle.sets.specs.Member.{member, set_of, count_of}
+use Rattle.sets.specs.Member.{member, set_of}
 use Rattle.sets.proofs.Walk.{Left}
 use Rattle.rows.specs.declared.row.Row.{Row}
 use Rattle.rows.specs.Rules.{unmet}
@@ -24,8 +24,8 @@ is_lost rows end s = not (eqb (bit_and (row_at rows (step_place s)).yes end.no) 
 abbrev pub found : ℕ → ℕ → (ℕ → Bool) → ℕ
 found set left f = set_of 32 (λ t. (member set t && not (member left t)) && f t)
 
-abbrev pub invariant-loop-left : goal.invariant-loop-left
-invariant-loop-left l = Left l.set l.left × (l.yes ≡ found l.set l.left (is_met l.targets l.rows l.end)) × (l.no ≡ found l.set l.left (is_lost l.rows l.end))
-
-abbrev pub decreases-loop-left : goal.decreases-loop-left
-decreases-loop-left l = count_of 32 (member l.left)
+abbrev pub invariant-loop-s : goal.invariant-loop-s
+invariant-loop-s l =
+    Left l.set l.s-iterator.left
+    × (l.yes ≡ found l.set l.s-iterator.left (is_met l.targets l.rows l.end))
+    × (l.no ≡ found l.set l.s-iterator.left (is_lost l.rows l.end))

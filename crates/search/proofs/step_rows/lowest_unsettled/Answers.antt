@@ -1,5 +1,4 @@
 -- `lowest_unsettled` meets its contract.
-use mathlib.Core.Path.{◌∙◌}
 use native.Mathlib.Omega.{arith}
 use Rattle.std.proofs.Common.{rules}
 use lib.ListN.{length}
@@ -11,9 +10,9 @@ use Rattle.search.proofs.step_rows.lowest_unsettled.Goals as goal
 pub returns-then-not-is_settled : goal.returns-then-not-is_settled
 returns-then-not-is_settled c =
     let T = table_of c.args.table.now.bytes.now in
-    lowest_here (length T.steps) (is_unsettled T c.args.rows.now) c.loop-j.j (omega arith) c.loop-j.invariant.1 (search rules)
+    lowest_here (length T.steps) (is_unsettled T c.args.rows.now) c.loop-j.j (omega arith) c.loop-j.invariant (search rules)
 
 pub returns : goal.returns
 returns c =
     let T = table_of c.args.table.now.bytes.now in
-    c.step_count-e.ensures ∙ lowest_nowhere (length T.steps) (is_unsettled T c.args.rows.now) (λ i h. c.loop-j.invariant.1 i (omega arith))
+    lowest_nowhere (length T.steps) (is_unsettled T c.args.rows.now) (λ i h. c.loop-j.invariant i (omega arith))

@@ -37,7 +37,7 @@ invariant_of-result c =
     let t = c.args.table in
     let T = table_of t.bytes.now in
     let targets = c.target_sets-targets.ensures in
-    let bases = c.level_bases-b.ensures in
+    let bases = c.level_bases-bases.ensures in
     record {
       setting = record {
         accepted = t.passes;

@@ -1,8 +1,7 @@
 -- `node` meets its contract: the section's record is the table's, at any number.
-use Prim.Native.Nat.{◌*◌}
+use Prim.Native.Nat.{◌*◌, ℕ}
 use mathlib.Core.List.{List}
 use mathlib.Core.Path.{ap, ◌∙◌}
-use Prim.Native.Nat.{ℕ}
 use lib.ListN.{drop}
 use Rattle.table.specs.Table.{record_width, node_of}
 use Rattle.table.proofs.Facts.{node_anywhere}

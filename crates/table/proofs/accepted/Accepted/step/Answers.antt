@@ -1,8 +1,7 @@
 -- `step` meets its contract: the section's record is the table's, at any number.
-use Prim.Native.Nat.{◌*◌}
+use Prim.Native.Nat.{◌*◌, ℕ}
 use mathlib.Core.List.{List}
 use mathlib.Core.Path.{ap, ◌∙◌}
-use Prim.Native.Nat.{ℕ}
 use lib.ListN.{drop}
 use Rattle.table.specs.Table.{record_width, step_of}
 use Rattle.table.proofs.Facts.{step_anywhere}

@@ -6,10 +6,10 @@ use mathlib.Core.Path.{◌≡◌, refl}
 use mathlib.Core.Bool.{false}
 use lib.ListN.{get_or}
 use Rattle.table.specs.declared.record.Node.{Node}
-use Rattle.table.specs.Second.{second_of}
+use Rattle.table.specs.Family.{family_of, second_of}
 use Rattle.table.proofs.Numbers.{four}
-use Rattle.ctl.specs.Rule.{constant, fixpoint, operators, quantifier_at, operator_of}
-use Rattle.label.specs.Families.{family_of}
+use Rattle.table.specs.declared.operator.Operator.TheVariants.{Constant as constant, Fixpoint as fixpoint}
+use Rattle.table.specs.Operator.{operators, quantifier_at, operator_of}
 
 module _ (x : Node) where
   -- a fixed point, with the family of its kind and its second child
