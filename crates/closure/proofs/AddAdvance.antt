@@ -19,7 +19,7 @@ use Rattle.closure.specs.Knowledge.{knowledge, Sized, level_base, level_total, l
 use Rattle.propagate.specs.Memory.{Memory, node_place, memory, Stepped, add_row, add_word}
 use Rattle.closure.specs.Inside.{Inside, Clash}
 use Rattle.closure.specs.Advance.{ForcedBy}
-use Rattle.closure.proofs.JoinedRows.{joined_length, joined_past, joined_grows, joined_small, joined_same, joined_within}
+use Rattle.propagate.proofs.JoinedRows.{joined_length, joined_past, joined_grows, joined_small, joined_same, joined_within}
 use Rattle.closure.proofs.JoinedSum.{joined-sum}
 use Rattle.closure.proofs.Advances.{Advances}
 

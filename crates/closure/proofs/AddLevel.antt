@@ -18,6 +18,7 @@ use Rattle.circuit.specs.Variables.{Var, level}
 use Rattle.rows.specs.declared.row.Row.{Row}
 use Rattle.propagate.specs.declared.level.Fixpoint.{Fixpoint}
 use Rattle.rows.specs.Words.{row_at, SmallRow}
+use Rattle.readers.specs.Readers.{first_word}
 use Rattle.closure.specs.Knowledge.{Sized, second_child, level_size, level_base, level_total}
 use Rattle.propagate.specs.Memory.{Memory, node_place, add_row, add_word}
 use Rattle.closure.specs.Inside.{RowIn}
@@ -26,16 +27,16 @@ use Rattle.propagate.specs.Level.{fixpoint_at, add_level}
 use Rattle.closure.proofs.ClashSound.{clash_in}
 use Rattle.closure.proofs.LevelsFit.{level_apart, level-place}
 use Rattle.closure.proofs.NodeSound.{in_first, in_last}
-use Rattle.closure.proofs.JoinedRows.{Apart}
+use Rattle.propagate.proofs.JoinedRows.{Apart}
 use Rattle.closure.proofs.Advances.{Advances, advance_so}
 use Rattle.closure.proofs.AddAdvance.{Quiet, union_small, words_small, add_word_lem}
 use Rattle.closure.proofs.AddSound.{union_in, Suits, joined_so}
 use Rattle.closure.proofs.AddPlaces.{Given, closed, advance_node}
 use Rattle.closure.proofs.InsideParts.{fixpoint_below, word_place, inner_of, inside_of}
 
--- the node, its children and where its levels lie
+-- the node, its children, where its levels lie, and where their words do
 abbrev pub fixpoint : Table → Family → ℕ → Bool → ℕ → ℕ → Fixpoint
-fixpoint T fam i e a b = fixpoint_at fam i e a b (level_base T i)
+fixpoint T fam i e a b = fixpoint_at fam i e a b (level_base T i) (first_word T i)
 
 module _ (T : Table) (i : ℕ) (fam : Family) (q : Quantifier) (a b : ℕ) (h : i < length T.nodes) (op : operator_of (node_at T i) ≡ fixpoint_of fam q a b)
     (m : ℕ) (some : 0 < m) (few : m < length T.states) where

@@ -21,9 +21,10 @@ use Rattle.closure.specs.Inside.{RowIn, StepsIn, Inside}
 use Rattle.closure.specs.Advance.{ForcedBy}
 use Rattle.closure.proofs.Forced.{Closed, forced_closed}
 use Rattle.closure.proofs.ClashSound.{clash_in, clash_steps_in}
-use Rattle.closure.proofs.Advances.{Advances, advance_so, advance_told}
+use Rattle.closure.proofs.Advances.{Advances, advance_so}
 use Rattle.closure.proofs.AddAdvance.{Quiet, union_small, rows_small, add_row_lem}
-use Rattle.closure.proofs.AddSound.{union_in, steps_union_in, places_apart, Suits, rows_keep}
+use Rattle.propagate.proofs.JoinedRows.{places_apart}
+use Rattle.closure.proofs.AddSound.{union_in, steps_union_in, Suits, rows_keep}
 
 -- what is so of the closure of any literals that the memory is inside of
 abbrev pub Given : Table → Memory → ((Literal Var → Type 0) → Type 0) → Type 0
@@ -55,7 +56,7 @@ module _ (T : Table) (wf : Wellformed T) (M : Memory) (sized : Sized T M) (x : R
 
   pub advance_step : (s : ℕ) → s < length T.states → Given T M (λ S. StepsIn T S s x)
       → Advances T (λ K. Quiet x (K.steps s)) M (add_step s x M)
-  advance_step s h given = advance_told T (add_row (step_place s) x M).report (add_step s x M).report refl refl (advance_so T (λ q. q) (add_row_lem T M sized (step_place s) x small place (record {
+  advance_step s h given = advance_so T (λ q. q) (add_row_lem T M sized (step_place s) x small place (record {
     keeps = λ P inside. rows_keep T wf (ForcedBy T P) (closed T P) M sized (step_place s) x place
         (λ k l. out (ForcedBy T P) (given P inside) k (ℕ_discrete k s))
         (inl (inr (omega (arith, wf.few_states))))
@@ -63,7 +64,7 @@ module _ (T : Table) (wf : Wellformed T) (M : Memory) (sized : Sized T M) (x : R
         inside;
     clash = λ c P inside. clash_steps_in T wf (ForcedBy T P) (closed T P) s _ (union_small _ x (rows_small T M sized (step_place s)) small)
         (steps_union_in T (ForcedBy T P) s _ x (inside.steps s h) (given P inside)) c;
-  })))
+  }))
     where
       place : step_place s + 1 < 130
       place = omega (arith, wf.few_states)

@@ -1,7 +1,6 @@
 -- A row added at a place keeps the memory inside a set: the rows apart from the place stay, and the row at the place is in with what is added.
-use Prim.Native.Nat.{ℕ, ◌+◌, ◌*◌, ◌<◌}
+use Prim.Native.Nat.{ℕ, ◌+◌, ◌<◌}
 use native.Mathlib.Omega.{arith}
-use native.Mathlib.Decide.{dec_lt}
 use mathlib.Core.Path.{◌≡◌, sym, subst}
 use mathlib.Core.Logic.{◌⊎◌, inl, inr, ⊎_elim}
 use mathlib.Core.List.{List, Memᴰ}
@@ -19,7 +18,7 @@ use Rattle.closure.specs.Knowledge.{knowledge, Sized}
 use Rattle.propagate.specs.Memory.{Memory, node_place, kept_place, add_row}
 use Rattle.closure.specs.Inside.{RowIn, StepsIn, Inside}
 use Rattle.closure.proofs.Forced.{Closed}
-use Rattle.closure.proofs.JoinedRows.{Apart, joined_here, joined_apart}
+use Rattle.propagate.proofs.JoinedRows.{Apart, joined_here, joined_apart}
 use Rattle.closure.proofs.InsideParts.{inner_of, inside_of}
 
 -- what both rows know is in
@@ -28,14 +27,6 @@ union_in T S v r q a b sign s k = ⊎_elim (a sign s) (b sign s) ((union-true r 
 
 pub steps_union_in : (T : Table) (S : Literal Var → Type 0) (s : ℕ) (r q : Row) → StepsIn T S s r → StepsIn T S s q → StepsIn T S s (union r q)
 steps_union_in T S s r q a b sign t k = ⊎_elim (a sign t) (b sign t) ((union-true r q sign t).0 k)
-
--- rows of different numbers are apart
-pub places_apart : (k p j : ℕ) → ¬ (p ≡ j) → Apart (k + 2 * p) (k + 2 * j)
-places_apart k p j d = go (dec_lt p j)
-  where
-    go : Dec (p < j) → Apart (k + 2 * p) (k + 2 * j)
-    go (yes l) = inl (omega arith)
-    go (no l) = inr (omega (arith, l, d))
 
 -- the row at p is apart from the place, or it is there and what is added has X
 abbrev pub Suits : (Row → Type 0) → Row → ℕ → ℕ → Type 0

@@ -1,12 +1,10 @@
 -- Rules one after the other: an advance and then another is an advance, and where neither added a bit both speak of the same rows.
-use Prim.Native.Nat.{ℕ, zero, suc, ◌<◌}
-use native.Mathlib.Nat.{not-suc-le-zero, lt_trans}
-use native.Mathlib.Omega.{arith}
+use Prim.Native.Nat.{◌<◌}
+use native.Mathlib.Nat.{lt_trans}
 use mathlib.Core.Path.{◌≡◌, refl, sym, subst, ◌∙◌}
-use mathlib.Core.Bool.{Bool, true, false, cond, ◌||◌, true≢false, false≢true}
+use mathlib.Core.Bool.{Bool, true, false, ◌||◌, true≢false, false≢true}
 use mathlib.Core.Logic.{⊎_elim}
 use mathlib.Core.List.{List}
-use borrow.Author.Count.{below_more}
 use borrow.Author.Tests.{not-true}
 use Rattle.table.specs.Table.{Table}
 use Rattle.table.proofs.Bools.{or_parts, or_neither}
@@ -15,10 +13,9 @@ use Rattle.circuit.specs.Variables.{Var}
 use Rattle.rows.specs.declared.row.Report.{Report}
 use Rattle.rows.specs.Words.{both_reports, quiet}
 use Rattle.closure.specs.Knowledge.{Knowledge, knowledge, Sized, total}
-use Rattle.propagate.specs.Memory.{Memory, Stepped, failing, Visit, ◌then_visit◌, each_with, ordered}
+use Rattle.propagate.specs.Memory.{Memory, Stepped, failing}
 use Rattle.closure.specs.Inside.{Inside, Clash}
 use Rattle.closure.specs.Advance.{ForcedBy, Advance}
-use Rattle.propagate.proofs.Ordered.{ordered-below, ordered_twice}
 
 -- a step of the memory advances
 abbrev pub Advances : Table → (Knowledge → Type 0) → Memory → Stepped → Type 0
@@ -54,22 +51,6 @@ module _ (T : Table) where
   -- where it fails nothing has to be so
   pub advance_failed : {P Q : Knowledge → Type 0} {M N : Memory} {r : Report} → r.fails ≡ true → Advance T P M N r → Advance T Q M N r
   advance_failed f a = advance_when (λ c e. absurd (true≢false (sym f ∙ e))) a
-
-  -- of a report it speaks only as to whether something was added and whether it fails, not whose steps they were
-  pub advance_told : {Q : Knowledge → Type 0} {M N : Memory} (r s : Report) → s.changed ≡ r.changed → s.fails ≡ r.fails → Advance T Q M N r → Advance T Q M N s
-  advance_told r s c f a = record {
-    sized = a.sized;
-    grows_rows = a.grows_rows;
-    grows_words = a.grows_words;
-    same_rows_length = a.same_rows_length;
-    beyond = a.beyond;
-    same_words_length = a.same_words_length;
-    sound = a.sound;
-    clash = λ e. a.clash (sym f ∙ e);
-    unchanged = λ e. a.unchanged (sym c ∙ e);
-    quiet = λ d e. a.quiet (sym c ∙ d) (sym f ∙ e);
-    more = λ e. a.more (sym c ∙ e);
-  }
 
   pub advance_then : {P Q : Knowledge → Type 0} {M N O : Memory} {r s : Report} → Advance T P M N r → Advance T Q N O s
       → Advance T (Both P Q) M O (both_reports r s)
@@ -111,43 +92,6 @@ module _ (T : Table) where
     quiet = λ c e. e;
     more = λ c. absurd (false≢true c);
   }
-
-  -- the first n, and one more unless they failed
-  next_or-not : {S : Type 0} {M : Memory} (Q : ℕ → Knowledge → Type 0) (R : S → Knowledge → Type 0) (n : ℕ) (p : Visit S) (f : S → Memory → Visit S)
-      (failed : Bool) → p.done.report.fails ≡ failed
-      → Advances T (λ K. (k : ℕ) → k < n → Q k K) M p.done × R p.left (knowledge T p.done.memory)
-      → (let v = f p.left p.done.memory in Advances T (Q n) p.done.memory v.done × R v.left (knowledge T v.done.memory))
-      → let v = cond failed p (p then_visit f) in Advances T (λ K. (k : ℕ) → k < suc n → Q k K) M v.done × R v.left (knowledge T v.done.memory)
-  next_or-not Q R n p f true e before next = (advance_failed e before.0, before.1)
-  next_or-not {M = M} Q R n p f false e before next =
-      (advance_so (λ q k l. below_more (λ k. Q k (knowledge T M)) n q.0 q.1 k (omega arith)) (advance_then before.0 next.0), next.1)
-
-  -- a step for each number below n, each with what the one before it left, of which R is so, until one fails
-  pub advance_with : {S : Type 0} (f : ℕ → S → Memory → Visit S) (Q : ℕ → Knowledge → Type 0) (R : S → Knowledge → Type 0) (n : ℕ)
-      → ((k : ℕ) → k < n → (s : S) (M : Memory) → Sized T M → R s (knowledge T M)
-      → Advances T (Q k) M (f k s M).done × R (f k s M).left (knowledge T (f k s M).done.memory))
-      → (s : S) (M : Memory) → Sized T M → R s (knowledge T M)
-      → Advances T (λ K. (k : ℕ) → k < n → Q k K) M (each_with f n s M).done × R (each_with f n s M).left (knowledge T (each_with f n s M).done.memory)
-  unfolding each_with
-  advance_with f Q R zero step s M sized r =
-      (advance_so (λ e k l. absurd (not-suc-le-zero l)) (advance_failing false M sized (λ e. absurd (false≢true e))), r)
-  advance_with f Q R (suc n) step s M sized r =
-      let p = each_with f n s M in
-      let before = advance_with f Q R n (λ k l. step k (omega arith)) s M sized r in
-      next_or-not Q R n p (f n) p.done.report.fails refl before (step n (omega arith) p.left p.done.memory before.0.sized before.1)
-
--- upward or downward, each number has its turn
-pub advance_ordered : (T : Table) (down : Bool) {S : Type 0} (f : ℕ → S → Memory → Visit S) (Q : ℕ → Knowledge → Type 0) (R : S → Knowledge → Type 0) (n : ℕ)
-    → ((k : ℕ) → k < n → (s : S) (M : Memory) → Sized T M → R s (knowledge T M)
-    → Advances T (Q k) M (f k s M).done × R (f k s M).left (knowledge T (f k s M).done.memory))
-    → (s : S) (M : Memory) → Sized T M → R s (knowledge T M)
-    → Advances T (λ K. (k : ℕ) → k < n → Q k K) M (each_with (λ k. f (ordered down n k)) n s M).done
-    × R (each_with (λ k. f (ordered down n k)) n s M).left (knowledge T (each_with (λ k. f (ordered down n k)) n s M).done.memory)
-advance_ordered T down f Q R n step s M sized r =
-    let all = advance_with T (λ k. f (ordered down n k)) (λ k. Q (ordered down n k)) R n (λ k l. step (ordered down n k) (ordered-below down n k l)) s M sized r in (
-      advance_so T (λ q k l. subst (λ (j : ℕ). Q j (knowledge T M)) (ordered_twice down n k l) (q (ordered down n k) (ordered-below down n k l))) all.0,
-      all.1,
-    )
 
 -- ---- quiet steps
 

@@ -26,7 +26,7 @@ use Rattle.rows.specs.Words.{row_at, SmallRow, step_place}
 use Rattle.closure.specs.Knowledge.{Knowledge, knowledge, Sized}
 use Rattle.propagate.specs.Memory.{Memory, memory, Stepped, failing, go_back, go_back_more, add_step}
 use Rattle.closure.specs.Inside.{RowIn, StepsIn, Inside}
-use Rattle.rows.specs.Back.{back_rows, back_row, back_report}
+use Rattle.propagate.specs.Back.{back_rows, back_row, back_report}
 use Rattle.rows.proofs.RowLaws.{cond-true, turned_small}
 use Rattle.closure.specs.Advance.{ForcedBy}
 use Rattle.closure.proofs.Ends.{target_small}

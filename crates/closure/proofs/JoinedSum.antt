@@ -8,7 +8,7 @@ use lib.ListN.{length, get_or}
 use Rattle.rows.specs.declared.row.Row.{Row}
 use Rattle.rows.specs.Words.{joined, report_of}
 use Rattle.closure.specs.Knowledge.{sum}
-use Rattle.closure.proofs.JoinedRows.{joined_length, joined_up, joined_more}
+use Rattle.propagate.proofs.JoinedRows.{joined_length, joined_up, joined_more}
 
 -- no word is smaller
 sum-le : (xs ys : List ℕ) → length xs ≡ length ys → ((k : ℕ) → get_or xs k 0 ≤ get_or ys k 0) → sum xs ≤ sum ys

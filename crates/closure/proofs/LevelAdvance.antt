@@ -1,17 +1,11 @@
--- The rule of a level of a fixed-point node advances the memory, and where it added nothing it is at rest at the states that it looked at. So do the
--- rules of all of its levels, upward or downward.
+-- The rule of a level of a fixed-point node advances the memory, and where it added nothing it is at rest at the states that it looked at.
 use Prim.Native.Nat.{ℕ, suc, ◌<◌}
 use native.Mathlib.Omega.{arith}
 use mathlib.Core.Path.{◌≡◌, refl, sym, ap, subst, ◌∙◌}
-use mathlib.Core.Bool.{Bool, true, false, cond, false≢true}
+use mathlib.Core.Bool.{true}
 use mathlib.Core.List.{List}
-use borrow.Author.Tests.{lt-ltb, ltb-true}
-use lib.Dec.{ltb}
 use lib.ListN.{length, get_or}
-use Rattle.std.specs.Prelude.{Some}
-use Rattle.std.proofs.lemmas.Option.{none-some}
-use Rattle.sets.specs.Member.{member, set_of}
-use Rattle.sets.proofs.SetOf.{in_set}
+use Rattle.sets.specs.Member.{member}
 use Rattle.table.specs.declared.operator.Family.{Family}
 use Rattle.table.specs.Table.{Table, node_at}
 use Rattle.table.specs.Facts.{Wellformed}
@@ -21,19 +15,15 @@ use Rattle.circuit.specs.Variables.{Var, ahead, level, value}
 use Rattle.rows.specs.declared.row.Row.{Row}
 use Rattle.rows.specs.declared.joined.Joined.{Joined}
 use Rattle.propagate.specs.declared.level.Fixpoint.{Fixpoint}
-use Rattle.propagate.specs.declared.levels.LevelRows.{LevelRows}
-use Rattle.propagate.specs.declared.levels.Seen.{Seen}
 use Rattle.rows.specs.Rules.{masked, join_of, inner_of}
 use Rattle.closure.specs.Dual.{is_every}
-use Rattle.rows.specs.Words.{SmallRow, step_place, quiet}
-use Rattle.closure.specs.Knowledge.{Knowledge, knowledge, Sized, level_base, second_child}
-use Rattle.propagate.specs.Memory.{Memory, node_place, Visit, node_row, ahead_in}
+use Rattle.rows.specs.Words.{SmallRow, step_place}
+use Rattle.closure.specs.Knowledge.{Knowledge, knowledge, Sized, second_child}
+use Rattle.propagate.specs.Memory.{Memory, node_place, node_row, ahead_in}
 use Rattle.closure.specs.Rest.{join_level, inner_level, RestLevel}
 use Rattle.closure.specs.Inside.{RowIn}
 use Rattle.closure.specs.Advance.{ForcedBy}
-use Rattle.propagate.specs.Level.{fixpoint_at, add_level, level_step, alike, nothing_seen, level_visit, levels_from}
-use Rattle.propagate.proofs.Visits.{visit_alike, visit_other}
-use Rattle.closure.proofs.Alike.{alike_parts, where_quiet}
+use Rattle.propagate.specs.Level.{add_level, level_step}
 use Rattle.closure.proofs.RulesSmall.{SmallJoined, join_small}
 use Rattle.closure.proofs.JoinClear.{join_clear}
 use Rattle.closure.proofs.RestJoin.{joined_more}
@@ -41,7 +31,7 @@ use Rattle.closure.proofs.AheadSound.{ahead_over}
 use Rattle.closure.proofs.AheadOf.{level_ahead_in, level_back_steps_in, level_back_end_in}
 use Rattle.closure.proofs.JoinSound.{JoinIn, join_in}
 use Rattle.closure.proofs.InsideLess.{advance_less}
-use Rattle.closure.proofs.Advances.{Advances, advance_so, advance_then, advance_failing, advance_ordered, quiet_still}
+use Rattle.closure.proofs.Advances.{Advances, advance_so, advance_then, advance_failing}
 use Rattle.closure.proofs.AddAdvance.{rows_small, levels_small}
 use Rattle.closure.proofs.AddPlaces.{Given, closed, advance_node}
 use Rattle.closure.proofs.AddLevel.{fixpoint, advance_level}
@@ -50,25 +40,6 @@ use Rattle.closure.proofs.Agree.{within_agrees, clear_agrees, JoinAgrees, join_a
 use Rattle.closure.proofs.Masked.{step_rows, OfStates, less_in, masked_within, masked_small, masked_agrees, ahead_here_small, ahead_over_small, ahead_within, ahead_here_agrees, back_agrees}
 use Rattle.closure.proofs.BackAdvance.{go_back_more_advance}
 use Rattle.closure.proofs.InsideParts.{fixpoint_below}
-
--- what was seen: the states to look at are of the table and have those of `look`, where the level seen last is at rest
-record SeenRest (T : Table) (look : ℕ) (fam : Family) (q : Quantifier) (a b : ℕ) (v : Seen) (K : Knowledge) : Type 0 where
-  inside : OfStates T v.look
-  has : (s : ℕ) → s < length T.states → member look s ≡ true → member v.look s ≡ true
-  rest : (r : LevelRows) → v.quiet ≡ Some r → (s : ℕ) → s < length T.states → member look s ≡ true → RestLevel T K fam q a b r.level r.below s
-
--- where something was added all states are looked at, which are of the table and have those of any set
-module _ (T : Table) where
-  abbrev after : Bool → ℕ → ℕ
-  after changed look = cond changed (set_of 32 (λ t. ltb t (length T.states))) look
-
-  after_inside : (changed : Bool) (look : ℕ) → OfStates T look → OfStates T (after changed look)
-  after_inside true look inside s m = ltb-true s (length T.states) ((in_set 32 (λ t. ltb t (length T.states)) s).0 m).1
-  after_inside false look inside s m = inside s m
-
-  after_has : (changed : Bool) (look : ℕ) → Wellformed T → (s : ℕ) → s < length T.states → member look s ≡ true → member (after changed look) s ≡ true
-  after_has true look wf s l m = (in_set 32 (λ t. ltb t (length T.states)) s).1 (omega (arith, wf.few_states), lt-ltb s (length T.states) l)
-  after_has false look wf s l m = m
 
 module _ (T : Table) (wf : Wellformed T) (targets : List ℕ) (ends : (s : ℕ) → s < 32 → get_or targets s 0 ≡ target_set T.steps s)
     (i : ℕ) (h : i < length T.nodes) (fam : Family) (q : Quantifier) (a : ℕ) (m : ℕ) (few : m < length T.states) where
@@ -200,61 +171,15 @@ module _ (T : Table) (wf : Wellformed T) (targets : List ℕ) (ends : (s : ℕ) 
             clear = z.0.0.0.1.1 s;
           }) (advance_then T four back)
 
-    -- ---- a level like the one seen last is passed over
-
-    module _ (look : ℕ) where
-      abbrev Visits : Visit Seen → Type 0
-      Visits z = Advances T (AtRest look) M z.done × SeenRest T look fam q a b z.left (knowledge T z.done.memory)
-
-      visit : (v : Seen) → SeenRest T look fam q a b v (knowledge T M) → Visits (level_visit targets (length T.states) fix m v M)
-      visit v seen = go (alike v above under) refl
-        where
-          go : (like : Bool) → alike v above under ≡ like → Visits (level_visit targets (length T.states) fix m v M)
-          go true e =
-              subst Visits (sym (visit_alike targets (length T.states) fix m v M e)) (
-                advance_so T (λ z s l g. seen.rest _ (alike_parts v above under e) s l g)
-                    (advance_failing T false M sized (λ f. absurd (false≢true f))),
-                seen,
-              )
-          go false e =
-              let report = (level_step targets (length T.states) fix m v.look M).report in
-              let done = level_with_lem v.look seen.inside in
-              subst Visits (sym (visit_other targets (length T.states) fix m v M e)) (
-                advance_so T (λ z s l g. z s l (seen.has s l g)) done,
-                record {
-                  inside = after_inside T report.changed v.look seen.inside;
-                  has = λ s l g. after_has T report.changed v.look wf s l (seen.has s l g);
-                  rest = λ r e. where_quiet (λ r. (s : ℕ) → s < length T.states → member look s ≡ true → RestLevel T (knowledge T (level_step targets (length T.states) fix m v.look M).memory) fam q a b r.level r.below s)
-                      (quiet report) (record { level = above; below = under }) r e
-                      (quiet_still {Q = λ K. (s : ℕ) → s < length T.states → member look s ≡ true → RestLevel T K fam q a b above under s}
-                      (advance_so T (λ z s l g. z s l (seen.has s l g)) done));
-                },
-              )
-
--- the levels of a fixed-point node, whose words begin at `base`
-pub levels_advance : (T : Table) (wf : Wellformed T) (targets : List ℕ) → ((s : ℕ) → s < 32 → get_or targets s 0 ≡ target_set T.steps s)
+-- the rule of a level of a fixed point, at the states of a set
+pub level_advance : (T : Table) (wf : Wellformed T) (targets : List ℕ) → ((s : ℕ) → s < 32 → get_or targets s 0 ≡ target_set T.steps s)
     → (look : ℕ) → OfStates T look
     → (i : ℕ) → i < length T.nodes → (fam : Family) (q : Quantifier) (a b : ℕ) → operator_of (node_at T i) ≡ fixpoint_of fam q a b
-    → (base : ℕ) → base ≡ level_base T i → (down : Bool) (M : Memory) → Sized T M
-    → Advances T (λ K. (m : ℕ) → m < length T.states → (s : ℕ) → s < length T.states → member look s ≡ true
-    → RestLevel T K fam q a b (K.levels i (suc m)) (K.levels i m) s) M
-    (levels_from targets (length T.states) (fixpoint_at fam i (is_every q) a b base) down look (length T.states) M).done
-levels_advance T wf targets ends look inside i h fam q a b op base e down M sized =
-    (advance_ordered T down (level_visit targets (length T.states) (fixpoint_at fam i (is_every q) a b base))
-    (λ m K. (s : ℕ) → s < length T.states → member look s ≡ true → RestLevel T K fam q a b (K.levels i (suc m)) (K.levels i m) s)
-    (SeenRest T look fam q a b)
-    (length T.states) one (nothing_seen look) M sized
-    (record { inside = inside; has = λ s l g. g; rest = λ r f. absurd (none-some r f) })).0
-  where
-    Visits : (a b base m : ℕ) (v : Seen) → Memory → Type 0
-    Visits a b base m v N =
-        let z = level_visit targets (length T.states) (fixpoint_at fam i (is_every q) a b base) m v N in
-        Advances T (λ K. (s : ℕ) → s < length T.states → member look s ≡ true → RestLevel T K fam q a b (K.levels i (suc m)) (K.levels i m) s) N z.done
-        × SeenRest T look fam q a b z.left (knowledge T z.done.memory)
-
-    one : (m : ℕ) → m < length T.states → (v : Seen) (N : Memory) → Sized T N → SeenRest T look fam q a b v (knowledge T N) → Visits a b base m v N
-    one m l v N sized-N seen =
-        let same : second_child (operator_of (node_at T i)) ≡ b = ap second_child op in
-        subst (λ (k : ℕ). Visits a b k m v N) (sym e)
-        (subst (λ (c : ℕ). SeenRest T look fam q a c v (knowledge T N) → Visits a c (level_base T i) m v N) same
-        (visit T wf targets ends i h fam q a m l (op ∙ ap (fixpoint_of fam q a) (sym same)) N sized-N look v) seen)
+    → (m : ℕ) → m < length T.states → (M : Memory) → Sized T M
+    → Advances T (λ K. (s : ℕ) → s < length T.states → member look s ≡ true → RestLevel T K fam q a b (K.levels i (suc m)) (K.levels i m) s) M
+    (level_step targets (length T.states) (fixpoint T fam i (is_every q) a b) m look M)
+level_advance T wf targets ends look inside i h fam q a b op m few M sized =
+    let same : second_child (operator_of (node_at T i)) ≡ b = ap second_child op in
+    subst (λ (c : ℕ). Advances T (λ K. (s : ℕ) → s < length T.states → member look s ≡ true → RestLevel T K fam q a c (K.levels i (suc m)) (K.levels i m) s) M
+    (level_step targets (length T.states) (fixpoint T fam i (is_every q) a c) m look M)) same
+    (level_with_lem T wf targets ends i h fam q a m few (op ∙ ap (fixpoint_of fam q a) (sym same)) M sized look inside)

@@ -1,27 +1,16 @@
--- Where the stored levels lie: each node's words begin behind those of the nodes before it, and all of them are no more than the variables.
+-- Where the stored levels lie: the words of each node begin where those of the nodes before it end, and all of them fit into what there is of levels.
 use Prim.Native.Nat.{ℕ, zero, suc, ◌+◌, ◌*◌, ◌-◌, ◌≤◌, ◌<◌, zero-le}
-use native.Mathlib.Nat.{le-mul_of_pos_right}
 use native.Mathlib.Numerals.{add-one}
 use native.Mathlib.Omega.{arith}
-use mathlib.Core.Path.{◌≡◌, refl, ap, ◌∙◌}
+use mathlib.Core.Path.{◌≡◌, ap, ◌∙◌}
 use mathlib.Core.List.{List, [], ◌∷◌}
 use lib.ListN.{length, get_or, take}
 use lib.Seq.{take_all}
 use Rattle.table.specs.declared.record.Node.{Node}
 use Rattle.table.specs.declared.operator.Family.{Family}
-use Rattle.table.specs.declared.operator.Family.TheVariants.{Release, Until, Eventually, Always}
 use Rattle.table.specs.Table.{Table, zero_node, node_at}
-use Rattle.table.specs.Facts.{Wellformed}
-use Rattle.ctl.specs.Rule.{Quantifier, Operator, constant, atom, negation, conjunction, disjunction, next, fixpoint, operator_of}
-use Rattle.circuit.specs.Variables.{own_count, cost_of, costs, variable_formula}
+use Rattle.ctl.specs.Rule.{Quantifier, Operator, fixpoint, operator_of}
 use Rattle.closure.specs.Knowledge.{level_size, level_sizes, level_base, level_total}
-
--- a level has a variable at each state
-own_some : (fam : Family) → 1 ≤ own_count fam
-own_some Release = omega arith
-own_some Until = omega arith
-own_some Eventually = omega arith
-own_some Always = omega arith
 
 module _ (n : ℕ) where
   -- the words of one node more
@@ -39,32 +28,6 @@ module _ (n : ℕ) where
   sizes_up xs (suc j) zero h = absurd (omega arith)
   sizes_up [] (suc j) (suc k) h = zero-le
   sizes_up (x ∷ xs) (suc j) (suc k) h = let rest = sizes_up xs j k (omega arith) in omega arith
-
-  -- a node's levels take no more words than it has variables
-  size_cost : (e : ℕ) (o : Operator) → level_size n o ≤ cost_of n e o
-  size_cost e (constant b) = zero-le
-  size_cost e (atom p) = zero-le
-  size_cost e (negation a) = zero-le
-  size_cost e (conjunction a b) = zero-le
-  size_cost e (disjunction a b) = zero-le
-  size_cost e (next q a) = zero-le
-  size_cost e (fixpoint fam q a b) = go n refl
-    where
-      go : (m : ℕ) → n ≡ m → 2 * (n - 1) ≤ n + n * (e + own_count fam * n)
-      go zero h = omega arith
-      go (suc m) h =
-          let some : 1 ≤ e + own_count fam * n = omega (arith, le-mul_of_pos_right {m = n} (own_count fam) (omega arith), own_some fam) in
-          omega (arith, le-mul_of_pos_right {m = e + own_count fam * n} n some)
-
-  sizes_costs : (e : ℕ) (xs : List Node) → level_sizes n xs ≤ costs n e xs
-  unfolding level_sizes costs
-  sizes_costs e [] = zero-le
-  sizes_costs e (x ∷ xs) = let rest = sizes_costs e xs in omega (arith, size_cost e (operator_of x))
-
--- the words of all levels are no more than the variables
-pub levels_fit : (T : Table) → Wellformed T → level_total T ≤ variable_formula T
-unfolding variable_formula
-levels_fit T wf = omega (arith, sizes_costs (length T.states) (length T.steps) T.nodes)
 
 -- the words of the next node begin where those of this one end
 pub base_next : (T : Table) (i : ℕ) → i < length T.nodes

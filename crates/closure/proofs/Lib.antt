@@ -24,6 +24,7 @@ pub mod KeptSound
 pub mod InitialSet
 pub mod StartSound
 pub mod LevelsFit
+pub mod WordsFit
 pub mod LevelBases
 pub mod OneMember
 pub mod AndClosed
@@ -40,7 +41,6 @@ pub mod RestKept
 pub mod RestDemands
 pub mod RestNodes
 pub mod RestForced
-pub mod JoinedRows
 pub mod JoinedSum
 pub mod InsideLess
 pub mod Advances
@@ -61,4 +61,3 @@ pub mod LevelAdvance
 pub mod NodeAdvance
 pub mod Agree
 pub mod Masked
-pub mod Alike

@@ -1,5 +1,5 @@
--- The rules of K, of the initial states and of each node as functions of the memory. The code's contracts equate with these.
-use Rattle.std.specs.Prelude.{ℕ, Bool, true, false, cond, List, eqb, get_or}
+-- The rules of K, of the initial states and of each node without levels as functions of the memory. The code's contracts equate with these.
+use Rattle.std.specs.Prelude.{ℕ, true, false, cond, List, eqb, get_or}
 use Rattle.sets.specs.Member.{set_of}
 use Rattle.table.specs.Table.{states_part}
 use Rattle.table.specs.StateSets.{labelled_word}
@@ -8,13 +8,12 @@ use Rattle.rows.specs.Rules.{kept_row, kept_steps, open_starts, start_kept, star
 use Rattle.closure.specs.Dual.{is_every}
 use Rattle.rows.specs.Words.{row_at, step_place}
 use Rattle.propagate.specs.Memory.{Memory, node_place, kept_place, Stepped, failing, ◌and_then◌, add_row, add_step, node_row}
-use Rattle.propagate.specs.Level.{fixpoint_at, levels_from}
 use Rattle.propagate.specs.Gates.{same_step, both_step, next_step}
 
 -- ---- nodes
 
--- at the states of `look`, where the node reads steps
-module _ (table targets bases : List ℕ) (n : ℕ) (look : ℕ) (down : Bool) (i : ℕ) where
+-- at the states of `look`, where the node reads steps; a fixed point has its levels in place of these
+module _ (table targets : List ℕ) (n : ℕ) (look : ℕ) (i : ℕ) where
   unfoldable pub node_step : Operator → Memory → Stepped
   node_step (constant b) M = add_row (node_place i) (constant_row n (set_of n (λ s. b))) M
   node_step (atom p) M = add_row (node_place i) (constant_row n (labelled_word (states_part table) n p)) M
@@ -22,8 +21,7 @@ module _ (table targets bases : List ℕ) (n : ℕ) (look : ℕ) (down : Bool) (
   node_step (conjunction a b) M = cond (eqb a b) (same_step i true a M) (both_step i true a b M)
   node_step (disjunction a b) M = cond (eqb a b) (same_step i true a M) (both_step i false a b M)
   node_step (next q a) M = next_step targets n look i (is_every q) a M
-  node_step (fixpoint fam q a b) M =
-      (levels_from targets n (fixpoint_at fam i (is_every q) a b (get_or bases i 0)) down look n M).done
+  node_step (fixpoint fam q a b) M = failing false M
 
 -- ---- K and the initial states
 

@@ -7,6 +7,6 @@ mod node;
 mod settled;
 
 pub use bases::{Bases, level_bases};
-pub use kept::{KEPT_PLACE, kept_step, start_step};
-pub use node::node_step;
+pub use kept::{kept_step, start_step};
+pub use node::{is_every, node_step};
 pub use settled::settled_steps;

@@ -1,18 +1,19 @@
-// The rules of a node, by its operator; at the states of a set, where it reads steps.
-ghost use Rattle.std.specs.Prelude.{◌≡◌, List, ℕ, ◌+◌, ◌*◌, ◌-◌, ◌≤◌, ◌<◌, length, get_or};
+// The rules of a node without levels, by its operator; at the states of a set, where it reads steps.
+ghost use Rattle.std.specs.Prelude.{◌≡◌, true, false, List, ℕ, ◌≤◌, ◌<◌, length};
 ghost use Rattle.sets.specs.Member.{set_of};
-ghost use Rattle.table.specs.declared.operator.Family.{Family};
-ghost use Rattle.ctl.specs.Rule.{Quantifier, fixpoint, operator_of};
 ghost use Rattle.closure.specs.Dual.{is_every};
+ghost use Rattle.readers.specs.Reads.{is_child};
+ghost use Rattle.readers.specs.Readers.{words_end};
 ghost use Rattle.closure.specs.MemoryRules.{node_step};
 ghost use Rattle.propagate.specs.Memory.{memory, stepped};
+ghost use Rattle.propagate.specs.Marked.{RowsMarked};
 
-use propagate::{Fixpoint, Graph, add_node, fixpoint_step, next_step, pair_step, same_step};
+use propagate::{Graph, add_node, next_step, pair_step, same_step};
 use rows::{Report, constant_row};
-use table::{Node, Operator, Quantifier};
+use table::{Operator, Quantifier};
 
 // A is taken as it is, E as its dual.
-fn is_every(q: Quantifier) -> bool
+pub fn is_every(q: Quantifier) -> bool
     ensures { result ≡ is_every q }
 {
     q == Quantifier::Every
@@ -26,45 +27,37 @@ fn constant_set(n: usize, holds: bool) -> u32
     if holds { sets::below(n) } else { 0 }
 }
 
-// Of a table only the section of its states is read, so any bytes do. That the words have room for the levels is asked: they are lent, and change hands at
-// each call.
+// Of a table only the section of its states is read, so any bytes do. A fixed point has its levels in place of these.
 pub fn node_step(
     table: &[u8],
     graph: &Graph,
     rows: &mut [u32; 130],
-    words: &mut [u32],
-    base: usize,
+    looks: &mut [u32],
     i: usize,
-    x: Node,
+    operator: Operator,
     look: u32,
-    down: bool,
 ) -> Report
-    requires i_bound { (i < 32) × ((x.a < 32) × (x.b < 32)) }
-    requires levels_below { (family : Family) (q : Quantifier) (a b : ℕ) → operator_of x ≡ fixpoint family q a b → base + 2 * (graph.now.states - 1) ≤ length words.old }
-    ensures { (bases : List ℕ) → get_or bases i 0 ≡ base → stepped rows.new words.new result ≡ node_step table.now graph.now.targets bases graph.now.states look down i (operator_of x) (memory rows.old words.old) }
+    requires i_below { i < 32 }
+    requires children_below { (c : ℕ) → is_child operator c ≡ true → c < 32 }
+    requires room { words_end graph.now.readers ≤ length looks.old }
+    ensures value { (w : List ℕ) → stepped rows.new w result ≡ node_step table.now graph.now.targets graph.now.states look i operator (memory rows.old w) }
+    ensures marked { RowsMarked graph.now.readers looks.old looks.new rows.old rows.new }
+    ensures calm { result.changed ≡ false → looks.new ≡ looks.old }
 {
     let n = graph.states;
-    match Operator::from(x) {
-        Operator::Constant(holds) => add_node(rows, i, constant_row(n, constant_set(n, holds))),
+    match operator {
+        Operator::Constant(holds) => {
+            let set = constant_set(n, holds);
+            add_node(graph, rows, looks, i, constant_row(n, set))
+        }
         Operator::Atom(p) => {
             let set = table::labelled_states(table::sections_of(table).states, n, p);
-            add_node(rows, i, constant_row(n, set))
+            add_node(graph, rows, looks, i, constant_row(n, set))
         }
-        Operator::Negation(a) => same_step(rows, i, false, a),
-        Operator::Conjunction(a, b) => pair_step(rows, i, true, a, b),
-        Operator::Disjunction(a, b) => pair_step(rows, i, false, a, b),
-        Operator::Next(q, a) => next_step(graph, rows, look, i, is_every(q), a),
-        Operator::Fixpoint(family, q, a, b) => {
-            let every = is_every(q);
-            let levels = Fixpoint {
-                family,
-                node: i,
-                a,
-                b,
-                every,
-                base,
-            };
-            fixpoint_step(graph, rows, words, levels, down, look)
-        }
+        Operator::Negation(a) => same_step(graph, rows, looks, i, false, a),
+        Operator::Conjunction(a, b) => pair_step(graph, rows, looks, i, true, a, b),
+        Operator::Disjunction(a, b) => pair_step(graph, rows, looks, i, false, a, b),
+        Operator::Next(q, a) => next_step(graph, rows, looks, look, i, is_every(q), a),
+        Operator::Fixpoint(..) => Report::default(),
     }
 }

@@ -15,4 +15,3 @@ pub mod SameMeaning
 pub mod Strike
 pub mod Repair
 pub mod Mistakes
-pub mod OfKind

@@ -1,6 +1,6 @@
 -- A cell at rest stays at rest while what it reads stays. What differs elsewhere is read by no rule of the cell, and a bit that came to a row that the
 -- rules add to leaves it with what they would add.
-use Prim.Native.Nat.{ℕ, suc, ◌<◌}
+use Prim.Native.Nat.{ℕ, suc, ◌+◌, ◌<◌}
 use native.Mathlib.Omega.{arith}
 use mathlib.Core.Path.{◌≡◌, refl, sym, ap, subst, ◌∙◌}
 use mathlib.Core.Bool.{Bool, true, false, cond, true≢false}
@@ -22,10 +22,11 @@ use Rattle.rows.specs.Words.{SmallRow}
 use Rattle.rows.specs.Rules.{unmet, back_steps, back_end, kept_row, kept_steps}
 use Rattle.rows.proofs.RowLaws.{turned_small}
 use Rattle.readers.specs.Reads.{AgreeAt, AgreeOn}
+use Rattle.readers.specs.Readers.{first_word}
 use Rattle.closure.specs.Dual.{is_every}
 use Rattle.closure.specs.Knowledge.{Knowledge, Small}
 use Rattle.closure.specs.Rest.{ahead_of, join_level, inner_level, RestBack, RestKept, RestBoth, RestSame, RestLevel, RestNode}
-use Rattle.events.specs.Watched.{SameKept, SameNode, More, Watched, Noted}
+use Rattle.events.specs.Watched.{SameKept, SameCell, More, RestCell, Watched, Noted}
 use Rattle.closure.proofs.Ends.{target_small}
 use Rattle.closure.proofs.TurnedRows.{within_duals}
 use Rattle.closure.proofs.RulesSmall.{ahead_small}
@@ -136,7 +137,7 @@ frame_gate : (T : Table) (K K' : Knowledge) (q : Quantifier) (i a b s : ℕ) (on
 frame_gate T K K' q i a b s true I A B = frame_same T K K' (K.nodes i) (K.nodes a) (K'.nodes i) (K'.nodes a) s I A
 frame_gate T K K' q i a b s false I A B = frame_both T K K' q i a b s I A B
 
--- ---- a node, with its levels
+-- ---- a node without levels, and a level
 
 module _ (T : Table) (wf : Wellformed T) (K K' : Knowledge) (small : Small K) (small' : Small K') (ours : OfTable T K) (more : More K K')
     (s : ℕ) (h : s < length T.states) where
@@ -181,24 +182,33 @@ module _ (T : Table) (wf : Wellformed T) (K K' : Knowledge) (small : Small K) (s
 self : (a : ℕ) → eqb a a ≡ true
 self a = eq-eqb a a refl
 
-pub frame_node : (T : Table) (wf : Wellformed T) (K K' : Knowledge) → Small K → Small K' → OfTable T K → More K K' → (i s : ℕ) → s < length T.states
-    → (o : Operator) → SameNode T K K' i o s → RestNode T K i o s → RestNode T K' i o s
-frame_node T wf K K' small small' ours more i s h (constant b) same rest = λ sign k. more.nodes i s sign (rest sign k)
-frame_node T wf K K' small small' ours more i s h (atom p) same rest = λ sign k. more.nodes i s sign (rest sign k)
-frame_node T wf K K' small small' ours more i s h (negation a) same rest =
-    frame_same T K K' (K.nodes i) _ (K'.nodes i) _ s same.own (turned_agrees false (K.nodes a) (K'.nodes a) s (same.child a (self a)).0) rest
-frame_node T wf K K' small small' ours more i s h (conjunction a b) same rest =
-    frame_gate T K K' every i a b s (eqb a b) same.own
-    (same.child a (or_left _ _ (self a))).0 (same.child b (or_right (eqb a b) _ (self b))).0 rest
-frame_node T wf K K' small small' ours more i s h (disjunction a b) same rest =
-    frame_gate T K K' some i a b s (eqb a b) same.own
-    (same.child a (or_left _ _ (self a))).0 (same.child b (or_right (eqb a b) _ (self b))).0 rest
-frame_node T wf K K' small small' ours more i s h (next q a) same rest =
-    frame_next T wf K K' small small' ours more s h q i a (same.steps refl) same.own (same.child a (self a)).1 rest
-frame_node T wf K K' small small' ours more i s h (fixpoint fam q a b) same rest = λ m l.
+-- what is known one way at s still is
+own_clear : (K K' : Knowledge) (i s : ℕ) → AgreeAt s (K.nodes i) (K'.nodes i) → ClearAt s (K.nodes i) → ClearAt s (K'.nodes i)
+own_clear K K' i s = clear_agrees (K.nodes i) (K'.nodes i) s
+
+pub frame_cell : (T : Table) (wf : Wellformed T) (K K' : Knowledge) → Small K → Small K' → OfTable T K → More K K' → (i m s : ℕ) → s < length T.states
+    → (o : Operator) → SameCell T K K' i m o s → RestCell T K i m o s → RestCell T K' i m o s
+frame_cell T wf K K' small small' ours more i m s h (constant b) same rest = (λ sign k. more.nodes i s sign (rest.0 sign k), own_clear K K' i s (same.own refl) rest.1)
+frame_cell T wf K K' small small' ours more i m s h (atom p) same rest = (λ sign k. more.nodes i s sign (rest.0 sign k), own_clear K K' i s (same.own refl) rest.1)
+frame_cell T wf K K' small small' ours more i m s h (negation a) same rest = (
+  frame_same T K K' (K.nodes i) _ (K'.nodes i) _ s (same.own refl) (turned_agrees false (K.nodes a) (K'.nodes a) s (same.child a (self a))) rest.0,
+  own_clear K K' i s (same.own refl) rest.1,
+)
+frame_cell T wf K K' small small' ours more i m s h (conjunction a b) same rest = (
+  frame_gate T K K' every i a b s (eqb a b) (same.own refl) (same.child a (or_left _ _ (self a))) (same.child b (or_right (eqb a b) _ (self b))) rest.0,
+  own_clear K K' i s (same.own refl) rest.1,
+)
+frame_cell T wf K K' small small' ours more i m s h (disjunction a b) same rest = (
+  frame_gate T K K' some i a b s (eqb a b) (same.own refl) (same.child a (or_left _ _ (self a))) (same.child b (or_right (eqb a b) _ (self b))) rest.0,
+  own_clear K K' i s (same.own refl) rest.1,
+)
+frame_cell T wf K K' small small' ours more i m s h (next q a) same rest = (
+  frame_next T wf K K' small small' ours more s h q i a (same.steps refl) (same.own refl) (same.ends refl a (self a)) rest.0,
+  own_clear K K' i s (same.own refl) rest.1,
+)
+frame_cell T wf K K' small small' ours more i m s h (fixpoint fam q a b) same rest =
     frame_level T wf K K' small small' ours more s h fam q i a b m (same.steps refl)
-    (same.child a (or_left _ _ (self a))).0 (same.child b (or_right (eqb a b) _ (self b))).0
-    (same.levels refl m l).0 (same.levels refl m l).1 (rest m l)
+    (same.child a (or_left _ _ (self a))) (same.child b (or_right (eqb a b) _ (self b))) (same.levels refl).0 (same.levels refl).1 rest
 
 -- ---- all cells that are not to be looked at
 
@@ -206,13 +216,10 @@ pub frame : (T : Table) (wf : Wellformed T) (looks looks' : List ℕ) (K K' : Kn
     → ((k s : ℕ) → member (get_or looks k 0) s ≡ true → member (get_or looks' k 0) s ≡ true)
     → Noted T looks' K K' → Watched T looks K → Watched T looks' K'
 frame T wf looks looks' K K' small small' ours more wider noted watched = record {
-  kept = λ s h n. frame_kept T K K' more s (noted.kept s h n) (watched.kept s h (before 32 s n));
-  nodes = λ i l s h n.
-      let same = noted.nodes i l s h n in
-      let rest = watched.nodes i l s h (before i s n) in (
-        frame_node T wf K K' small small' ours more i s h (operator_of (node_at T i)) same rest.0,
-        clear_agrees (K.nodes i) (K'.nodes i) s same.own rest.1,
-      );
+  kept = λ s h n. frame_kept T K K' more s (noted.kept s h n) (watched.kept s h (before 0 s n));
+  nodes = λ i m l few s h n.
+      frame_cell T wf K K' small small' ours more i m s h (operator_of (node_at T i)) (noted.nodes i m l few s h n)
+      (watched.nodes i m l few s h (before (first_word T i + m) s n));
 }
   where
     -- a cell that is not in its word now was not in it before

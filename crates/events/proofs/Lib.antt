@@ -1,9 +1,13 @@
-pub mod SettingFacts
 pub mod Closing
-pub mod Stays
+pub mod SettingFacts
+pub mod Ordered
 pub mod Frame
 pub mod Noting
 pub mod Looking
-pub mod VisitNode
-pub mod VisitAll
+pub mod LookWords
 pub mod VisitKept
+pub mod VisitPlain
+pub mod AlikeLevels
+pub mod VisitLevel
+pub mod VisitAll
+pub mod FewWords

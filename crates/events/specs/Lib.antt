@@ -1,4 +1,6 @@
 pub mod Watched
 pub mod Setting
 pub mod NetTable
+pub mod Ordered
 pub mod Looked
+pub mod Levels

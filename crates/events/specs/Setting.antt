@@ -10,7 +10,7 @@ use Rattle.closure.specs.Knowledge.{level_base, level_total}
 
 -- an accepted table, how many states it has and the ends of the steps out of each, the initial states, where the levels of each node lie and how many
 -- words they are, and who reads what
-pub record Setting (table : List ℕ) (graph : Graph) (initial : ℕ) (bases : List ℕ) (levels : ℕ) (readers : List ℕ) : Type 0 where
+pub record Setting (table : List ℕ) (graph : Graph) (initial : ℕ) (bases : List ℕ) (levels : ℕ) : Type 0 where
   pub accepted : table_verdict table ≡ Ok tt
   pub states : graph.states ≡ length (table_of table).states
   pub targets_size : length graph.targets ≡ 32
@@ -19,4 +19,4 @@ pub record Setting (table : List ℕ) (graph : Graph) (initial : ℕ) (bases : L
   pub bases_size : length bases ≡ 32
   pub bases_at : (i : ℕ) → i < 32 → get_or bases i 0 ≡ level_base (table_of table) i
   pub all_levels : levels ≡ level_total (table_of table)
-  pub reads : AreReaders (table_of table) readers
+  pub reads : AreReaders (table_of table) graph.readers

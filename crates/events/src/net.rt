@@ -1,5 +1,8 @@
 // What propagation is told of a table, worked out once before a search.
-ghost use Rattle.std.specs.Prelude.{◌≡◌};
+ghost use Rattle.std.specs.Prelude.{◌≡◌, ◌+◌};
+ghost use Rattle.table.specs.Table.{table_of};
+ghost use Rattle.closure.specs.Knowledge.{level_total};
+ghost use Rattle.readers.specs.Readers.{word_total};
 ghost use Rattle.events.specs.Setting.{Setting};
 
 use closure::{Bases, level_bases};
@@ -7,15 +10,14 @@ use propagate::Graph;
 use readers::readers_of;
 use table::{Accepted, initial_states, target_sets};
 
-// The table, its states and steps, its initial states, where the words of the levels lie, and who reads what.
+// The table, its states and steps and who reads what, its initial states, and where the rows of the levels lie.
 #[derive(Drop)]
 pub struct Net<'a> {
     pub table: Accepted<'a>,
     pub graph: Graph,
     pub initial: u32,
     pub bases: Bases,
-    pub readers: [u32; 65],
-    pub ghost setting: { Setting table.bytes.now graph initial bases.at bases.total readers },
+    pub ghost setting: { Setting table.bytes.now graph initial bases.at bases.total },
 }
 
 impl<'a> Net<'a> {
@@ -27,13 +29,29 @@ impl<'a> Net<'a> {
         let initial = initial_states(table.states, states);
         let readers = readers_of(&table, &targets);
         let bases = level_bases(&table);
-        let graph = Graph { targets, states };
+        let graph = Graph {
+            targets,
+            states,
+            readers,
+        };
         Net {
             table,
             graph,
             initial,
             bases,
-            readers,
         }
+    }
+
+    // How many words there are of the states to look at.
+    pub fn word_count(&self) -> usize
+        ensures { result ≡ word_total (table_of self.now.table.bytes.now) }
+    {
+        self.graph.readers.first[32]
+    }
+    // How many words a closure needs, for the levels and for the states to look at.
+    pub fn room(&self) -> usize
+        ensures { result ≡ level_total (table_of self.now.table.bytes.now) + word_total (table_of self.now.table.bytes.now) }
+    {
+        self.bases.total + self.word_count()
     }
 }

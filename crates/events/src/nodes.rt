@@ -1,25 +1,64 @@
 // All nodes of a table, one after the other.
-ghost use Rattle.std.specs.Prelude.{◌<◌, length};
+ghost use Rattle.std.specs.Prelude.{◌≤◌, ◌<◌, length};
+ghost use Rattle.readers.specs.Readers.{word_total};
 ghost use Rattle.propagate.specs.Memory.{memory};
 ghost use Rattle.closure.specs.Knowledge.{Sized};
 ghost use Rattle.events.specs.NetTable.{table_in};
-ghost use Rattle.events.specs.Looked.{Looked, Always};
+ghost use Rattle.events.specs.Looked.{Looked, CellsOf, NodeCells, Always};
 
+use crate::levels::levels_visit;
 use crate::net::Net;
-use crate::visit::node_visit;
-use propagate::in_order;
+use crate::order::in_order;
+use crate::visit::plain_visit;
+use closure::is_every;
+use propagate::Fixpoint;
 use rows::{Report, both};
+use table::Operator;
+
+// A node with all its cells.
+fn node_visit(
+    net: &Net<'_>,
+    rows: &mut [u32; 130],
+    words: &mut [u32],
+    looks: &mut [u32],
+    down: bool,
+    i: usize,
+) -> Report
+    requires sized { Sized (table_in net.now) (memory rows.old words.old) }
+    requires i_below { i < length (table_in net.now).nodes }
+    requires room { word_total (table_in net.now) ≤ length looks.old }
+    ensures { Looked (table_in net.now) (CellsOf (table_in net.now) i) Always looks.old looks.new (memory rows.old words.old) (memory rows.new words.new) result }
+{
+    let operator = Operator::from(net.table.node(i));
+    let Operator::Fixpoint(family, q, a, b) = operator else {
+        return plain_visit(net, rows, looks, i, operator);
+    };
+    let every = is_every(q);
+    let base = net.bases.at[i];
+    let word = net.graph.readers.first[i];
+    let x = Fixpoint {
+        family,
+        node: i,
+        a,
+        b,
+        every,
+        base,
+        word,
+    };
+    levels_visit(net, rows, words, looks, x, down)
+}
 
 // Upward or downward, until something is known both ways. `down` is the order of the same visits, and picks no other step.
 pub fn nodes_visit(
     net: &Net<'_>,
     rows: &mut [u32; 130],
     words: &mut [u32],
-    looks: &mut [u32; 33],
+    looks: &mut [u32],
     down: bool,
 ) -> Report
-    requires { Sized (table_in net.now) (memory rows.old words.old) }
-    ensures { Looked (table_in net.now) (λ k. k < length (table_in net.now).nodes) Always looks.old looks.new (memory rows.old words.old) (memory rows.new words.new) result }
+    requires sized { Sized (table_in net.now) (memory rows.old words.old) }
+    requires room { word_total (table_in net.now) ≤ length looks.old }
+    ensures { Looked (table_in net.now) (NodeCells (table_in net.now)) Always looks.old looks.new (memory rows.old words.old) (memory rows.new words.new) result }
 {
     let f = net.table.node_count();
     let mut report = Report::default();

@@ -1,13 +1,14 @@
 // The closure, by events: sweeps up and down in turn over what is to be looked at, until nothing is or something is known both ways.
-ghost use Rattle.std.specs.Prelude.{◌≡◌, false};
+ghost use Rattle.std.specs.Prelude.{◌≡◌, ◌≤◌, false, length};
 ghost use Rattle.std.specs.Option.{ForSome};
 ghost use Rattle.closure.specs.Knowledge.{knowledge, Sized};
 ghost use Rattle.closure.specs.Rest.{RestStart};
 ghost use Rattle.propagate.specs.Memory.{memory};
+ghost use Rattle.readers.specs.Readers.{word_total};
 ghost use Rattle.events.specs.NetTable.{table_in};
 ghost use Rattle.events.specs.Watched.{RestBut};
 ghost use Rattle.closure.specs.Advance.{Founded};
-ghost use Rattle.events.specs.Looked.{Swept, Looked, FirstLooks};
+ghost use Rattle.events.specs.Looked.{Looked, AllCells, FirstLooks};
 ghost use Rattle.closure.specs.Closes.{is_failed, Closed};
 
 use crate::net::Net;
@@ -22,11 +23,12 @@ fn sweep_once(
     net: &Net<'_>,
     rows: &mut [u32; 130],
     words: &mut [u32],
-    looks: &mut [u32; 33],
+    looks: &mut [u32],
     down: bool,
 ) -> Report
-    requires { Sized (table_in net.now) (memory rows.old words.old) }
-    ensures { Looked (table_in net.now) (Swept (table_in net.now)) (RestStart (table_in net.now)) looks.old looks.new (memory rows.old words.old) (memory rows.new words.new) result }
+    requires sized { Sized (table_in net.now) (memory rows.old words.old) }
+    requires room { word_total (table_in net.now) ≤ length looks.old }
+    ensures { Looked (table_in net.now) (AllCells (table_in net.now)) (RestStart (table_in net.now)) looks.old looks.new (memory rows.old words.old) (memory rows.new words.new) result }
 {
     let first = kept_visit(net, rows, looks);
     if first.fails {
@@ -40,15 +42,16 @@ fn sweep_once(
 }
 
 // The words of the states to look at: all states, or where the steps out of the states of a set have changed.
-fn first_looks(readers: &[u32; 65], changed: Option<u32>) -> [u32; 33]
-    ensures { FirstLooks readers.now changed result }
+fn first_looks(net: &Net<'_>, looks: &mut [u32], changed: Option<u32>)
+    requires room { length looks.old ≡ word_total (table_in net.now) }
+    ensures first { FirstLooks net.now.graph.readers changed looks.new }
+    ensures looks_len_unchanged { length looks.new ≡ length looks.old }
 {
     match changed {
-        None => [0xffff_ffff; 33],
+        None => looks.fill(0xffff_ffff),
         Some(set) => {
-            let mut looks = [0u32; 33];
-            mark_steps(readers, &mut looks, set);
-            looks
+            looks.fill(0);
+            mark_steps(&net.graph.readers, looks, set);
         }
     }
 }
@@ -60,18 +63,21 @@ pub fn close(
     net: &Net<'_>,
     rows: &mut [u32; 130],
     words: &mut [u32],
+    looks: &mut [u32],
     changed: Option<u32>,
 ) -> Option<u32>
     requires sized { Sized (table_in net.now) (memory rows.old words.old) }
     requires founded { Founded (table_in net.now) (memory rows.old words.old) }
     requires rest_but { ForSome changed (λ set. RestBut (table_in net.now) set (knowledge (table_in net.now) (memory rows.old words.old))) }
+    requires room { length looks.old ≡ word_total (table_in net.now) }
     ensures closed { Closed (table_in net.now) result (memory rows.old words.old) (memory rows.new words.new) }
     ensures resting { is_failed result ≡ false → RestBut (table_in net.now) 0 (knowledge (table_in net.now) (memory rows.new words.new)) }
+    ensures looks_len_unchanged { length looks.new ≡ length looks.old }
 {
-    let mut looks = first_looks(&net.readers, changed);
+    first_looks(net, looks, changed);
     let mut down = false;
     loop {
-        let r = sweep_once(net, rows, words, &mut looks, down);
+        let r = sweep_once(net, rows, words, looks, down);
         if r.fails {
             return None;
         }

@@ -1,3 +1,3 @@
 pub mod Chain
-pub mod Ordered
-pub mod Visits
+pub mod JoinedRows
+pub mod MarkedLaws

@@ -1,23 +1,17 @@
 -- The levels of a fixed-point node, as a function of the memory: level 0 is the row of b and level n that of the node; the others lie in the
 -- words from `base` on.
-use Rattle.std.specs.Prelude.{ℕ, suc, ◌+◌, ◌*◌, ◌-◌, ◌≤◌, ◌<◌, ◌≡◌, Bool, false, cond, ◌&&◌, List, eqb, ltb, length, Option, None, Some}
-use Rattle.std.specs.Bool.{then_some}
-use Rattle.sets.specs.Member.{set_of}
+use Rattle.std.specs.Prelude.{ℕ, suc, ◌+◌, ◌*◌, ◌-◌, ◌≤◌, ◌<◌, ◌≡◌, Bool, cond, List, eqb, length}
 use Rattle.table.specs.declared.operator.Family.{Family}
 use Rattle.rows.specs.declared.row.Row.{Row}
-use Rattle.rows.specs.declared.row.Report.{Report}
 use Rattle.propagate.specs.declared.level.Fixpoint.{Fixpoint}
-use Rattle.propagate.specs.declared.levels.LevelRows.{LevelRows}
-use Rattle.propagate.specs.declared.levels.Seen.{Seen}
 use Rattle.rows.specs.declared.joined.Joined.{Joined}
-use Rattle.rows.specs.Row.{same_row}
 use Rattle.rows.specs.Rules.{masked, join_of}
-use Rattle.rows.specs.Words.{row_at, quiet}
-use Rattle.propagate.specs.Memory.{Memory, node_place, Stepped, failing, ◌and_then◌, add_row, add_word, node_row, Visit, passed, each_with, ordered, ahead_in, go_back_more}
+use Rattle.rows.specs.Words.{row_at}
+use Rattle.propagate.specs.Memory.{Memory, node_place, Stepped, failing, ◌and_then◌, add_row, add_word, node_row, ahead_in, go_back_more}
 
--- a family over a and b, at node i
-abbrev pub fixpoint_at : Family → ℕ → Bool → ℕ → ℕ → ℕ → Fixpoint
-fixpoint_at family i e a b base = record { family = family; node = i; a = a; b = b; every = e; base = base }
+-- a family over a and b, at node i, with where its levels and their words lie
+abbrev pub fixpoint_at : Family → ℕ → Bool → ℕ → ℕ → ℕ → ℕ → Fixpoint
+fixpoint_at family i e a b base word = record { family = family; node = i; a = a; b = b; every = e; base = base; word = word }
 
 module _ (n : ℕ) (x : Fixpoint) where
   abbrev pub level_at : ℕ → Memory → Row
@@ -47,43 +41,6 @@ module _ (targets : List ℕ) (n : ℕ) (x : Fixpoint) (m : ℕ) where
   unfoldable pub level_step : ℕ → Memory → Stepped
   level_step set M = level_with (level_at n x m M) (joined_at set (level_at n x m M) M) M
 
--- a level was quiet, and had these rows
-abbrev pub had_rows : Option LevelRows → Row → Row → Bool
-had_rows None level below = false
-had_rows (Some r) level below = same_row r.level level && same_row r.below below
-
--- the level seen last added nothing, and had these rows
-abbrev pub alike : Seen → Row → Row → Bool
-alike v level below = had_rows v.quiet level below
-
--- the rows of a level where it added nothing
-abbrev pub quiet_rows : Report → Row → Row → Option LevelRows
-quiet_rows r level below = then_some (quiet r) (record { level = level; below = below })
-
--- none is seen yet, and these states are to be looked at
-abbrev pub nothing_seen : ℕ → Seen
-nothing_seen look = record { look = look; quiet = None }
-
--- the states to look at from then on: where something was added, all
-abbrev pub look_after : ℕ → Report → ℕ → ℕ
-look_after n r look = cond r.changed (set_of 32 (λ t. ltb t n)) look
-
-abbrev pub level_look : List ℕ → ℕ → Fixpoint → ℕ → Seen → Memory → Visit Seen
-level_look targets n x m v M =
-    let s = level_step targets n x m v.look M in
-    record {
-      done = s;
-      left = record { look = look_after n s.report v.look; quiet = quiet_rows s.report (level_at n x (suc m) M) (level_at n x m M) };
-    }
-
--- a level like the one seen last is passed over
-unfoldable pub level_visit : List ℕ → ℕ → Fixpoint → ℕ → Seen → Memory → Visit Seen
-level_visit targets n x m v M = cond (alike v (level_at n x (suc m) M) (level_at n x m M)) (passed v M) (level_look targets n x m v M)
-
--- the first k of the levels of a node, upward or downward, at the states of a set
-abbrev pub levels_from : List ℕ → ℕ → Fixpoint → Bool → ℕ → ℕ → Memory → Visit Seen
-levels_from targets n x down look k M = each_with (λ m. level_visit targets n x (ordered down n m)) k (nothing_seen look) M
-
 -- the rows of a fixed-point node lie in the memory
 pub record Fits (n : ℕ) (x : Fixpoint) (rows words : List ℕ) : Type 0 where
   pub rows_size : length rows ≡ 130
@@ -91,3 +48,7 @@ pub record Fits (n : ℕ) (x : Fixpoint) (rows words : List ℕ) : Type 0 where
   pub a_below : x.a < 32
   pub b_below : x.b < 32
   pub levels_below : x.base + 2 * (n - 1) ≤ length words
+
+-- and so do the words of its levels, in those of the states to look at
+abbrev pub HasWords : ℕ → Fixpoint → List ℕ → Type 0
+HasWords n x looks = x.word + n ≤ length looks

@@ -1,3 +1,5 @@
+pub mod Back
 pub mod Memory
 pub mod Level
 pub mod Gates
+pub mod Marked

@@ -1,12 +1,12 @@
 -- The memory of a closure, and rules applied to it one after the other. `rows` has the rows of the steps out of each state (0 to 31), of each
 -- node (32 to 63) and of K (64), of two words each; `words` has those of the levels.
-use Rattle.std.specs.Prelude.{ℕ, zero, suc, ◌+◌, ◌*◌, ◌-◌, Bool, false, cond, List, get_or}
+use Rattle.std.specs.Prelude.{ℕ, ◌+◌, ◌*◌, Bool, false, cond, List, get_or}
 use Rattle.rows.specs.declared.row.Row.{Row}
 use Rattle.rows.specs.declared.row.Report.{Report}
 use Rattle.rows.specs.Row.{turned}
 use Rattle.rows.specs.Rules.{is_none, ahead_at}
-use Rattle.rows.specs.Words.{row_at, joined, report_of, step_report, both_reports, step_place}
-use Rattle.rows.specs.Back.{back_rows, back_row, back_report}
+use Rattle.rows.specs.Words.{row_at, joined, report_of, both_reports, step_place}
+use Rattle.propagate.specs.Back.{back_rows, back_row, back_report}
 
 pub record Memory : Type 0 where
   pub rows : List ℕ
@@ -34,7 +34,7 @@ stepped rows words r = record { memory = memory rows words; report = r }
 
 -- nothing is done; it has failed if so
 abbrev pub failing : Bool → Memory → Stepped
-failing f M = record { memory = M; report = record { changed = false; fails = f; steps = 0 } }
+failing f M = record { memory = M; report = record { changed = false; fails = f } }
 
 infixl 20 ◌and_then◌
 abbrev pub ◌and_then◌ : Stepped → (Memory → Stepped) → Stepped
@@ -46,36 +46,13 @@ add_row at x M = record { memory = memory (joined M.rows at x) M.words; report =
 
 -- to the row of the steps out of s
 abbrev pub add_step : ℕ → Row → Memory → Stepped
-add_step s x M = record { memory = memory (joined M.rows (step_place s) x) M.words; report = step_report M.rows s x }
+add_step s x M = record { memory = memory (joined M.rows (step_place s) x) M.words; report = report_of M.rows (step_place s) x }
 
 abbrev pub add_word : ℕ → Row → Memory → Stepped
 add_word at x M = record { memory = memory M.rows (joined M.words at x); report = report_of M.words at x }
 
 abbrev pub node_row : Memory → ℕ → Row
 node_row M i = row_at M.rows (node_place i)
-
--- a step of the memory that also leaves something for the next
-pub record Visit (S : Type 0) : Type 0 where
-  pub done : Stepped
-  pub left : S
-
--- nothing is done, and what there was is left
-abbrev pub passed : {S : Type 0} → S → Memory → Visit S
-passed s M = record { done = failing false M; left = s }
-
--- one after another
-infixl 20 ◌then_visit◌
-abbrev pub ◌then_visit◌ : {S : Type 0} → Visit S → (S → Memory → Visit S) → Visit S
-p then_visit f = let v = f p.left p.done.memory in record { done = p.done and_then (λ _. v.done); left = v.left }
-
--- for each number below k, each with what the one before it left, until one fails
-unfoldable pub each_with : {S : Type 0} → (ℕ → S → Memory → Visit S) → ℕ → S → Memory → Visit S
-each_with f zero s M = passed s M
-each_with f (suc k) s M = let p = each_with f k s M in cond p.done.report.fails p (p then_visit f k)
-
--- the k-th of n numbers, going up or going down
-abbrev pub ordered : Bool → ℕ → ℕ → ℕ
-ordered down n k = cond down (n - 1 - k) k
 
 -- ---- the steps out of the states
 

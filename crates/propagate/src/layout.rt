@@ -1,10 +1,17 @@
-// Where the rows of the nodes lie: that of node i at 64 + 2 i. Those of the steps lie before them, and that of K after. They are one array of words,
-// as the lent ones of the levels are, so that one `add` and one `row_at` serve both; their places are told here, in `rows` and in `closure`.
-ghost use Rattle.std.specs.Prelude.{◌≡◌, ◌<◌};
-ghost use Rattle.rows.specs.Words.{row_at, joined, report_of};
-ghost use Rattle.propagate.specs.Memory.{node_place};
+// Where the rows lie: those of the steps out of state s at 2 s, that of node i at 64 + 2 i, and that of K behind them. They are one array of words, as the
+// lent ones of the levels are, so that one function adds to both and one `row_at` reads both; their places are told here and in `rows`.
+ghost use Rattle.std.specs.Prelude.{◌≡◌, false, ◌≤◌, ◌<◌, length, ℕ};
+ghost use Rattle.rows.specs.Words.{row_at, joined, report_of, step_place};
+ghost use Rattle.readers.specs.Readers.{words_end};
+ghost use Rattle.propagate.specs.Memory.{node_place, kept_place};
+ghost use Rattle.propagate.specs.Marked.{RowsMarked};
 
-use rows::{Report, Row, add, row_at};
+use crate::adding::{RowOf, add_to};
+use crate::graph::Graph;
+use rows::{Report, Row, row_at};
+
+// Where the row of K lies.
+pub const KEPT_PLACE: usize = 128;
 
 // What is known of X of node i. A node is a plain number, as a state is in `rows`.
 pub fn node_row(rows: &[u32; 130], i: usize) -> Row
@@ -14,10 +21,35 @@ pub fn node_row(rows: &[u32; 130], i: usize) -> Row
     row_at(rows, 64 + 2 * i)
 }
 
-pub fn add_node(rows: &mut [u32; 130], i: usize, x: Row) -> Report
-    requires { i < 32 }
+pub fn add_node(graph: &Graph, rows: &mut [u32; 130], looks: &mut [u32], i: usize, x: Row) -> Report
+    requires i_below { i < 32 }
+    requires room { words_end graph.now.readers ≤ length looks.old }
     ensures value { result ≡ report_of rows.old (node_place i) x }
     ensures rows_after { rows.new ≡ joined rows.old (node_place i) x }
+    ensures marked { RowsMarked graph.now.readers looks.old looks.new rows.old rows.new }
+    ensures calm { result.changed ≡ false → looks.new ≡ looks.old }
 {
-    add(rows, 64 + 2 * i, x)
+    add_to(&graph.readers, rows, 64 + 2 * i, x, looks, RowOf::Node(i))
+}
+
+// To the row of the steps out of s.
+pub fn add_step(graph: &Graph, rows: &mut [u32; 130], looks: &mut [u32], s: usize, x: Row) -> Report
+    requires s_below { s < 32 }
+    requires room { words_end graph.now.readers ≤ length looks.old }
+    ensures value { result ≡ report_of rows.old (step_place s) x }
+    ensures rows_after { rows.new ≡ joined rows.old (step_place s) x }
+    ensures marked { RowsMarked graph.now.readers looks.old looks.new rows.old rows.new }
+    ensures calm { result.changed ≡ false → looks.new ≡ looks.old }
+{
+    add_to(&graph.readers, rows, 2 * s, x, looks, RowOf::Steps(s))
+}
+
+pub fn add_kept(graph: &Graph, rows: &mut [u32; 130], looks: &mut [u32], x: Row) -> Report
+    requires room { words_end graph.now.readers ≤ length looks.old }
+    ensures value { result ≡ report_of rows.old kept_place x }
+    ensures rows_after { rows.new ≡ joined rows.old kept_place x }
+    ensures marked { RowsMarked graph.now.readers looks.old looks.new rows.old rows.new }
+    ensures calm { result.changed ≡ false → looks.new ≡ looks.old }
+{
+    add_to(&graph.readers, rows, KEPT_PLACE, x, looks, RowOf::Kept)
 }

@@ -1,19 +1,23 @@
 // A level of a fixed-point node: level 0 is the row of b and level n that of the node, the others lie in the lent words from `base` on, two words a row,
-// for C lends single ones.
-ghost use Rattle.std.specs.Prelude.{◌≡◌, ◌≤◌, ◌<◌, length};
+// for C lends single ones. The words of the states to look at begin at `word`: those of the levels 1 to n.
+ghost use Rattle.std.specs.Prelude.{◌≡◌, false, ◌≤◌, ◌<◌, length};
+ghost use Rattle.readers.specs.Readers.{words_end};
 ghost use Rattle.propagate.specs.Memory.{memory, stepped, go_back_more};
-ghost use Rattle.propagate.specs.Level.{level_at, add_level, add_joined, joined_at, level_step, Fits};
+ghost use Rattle.propagate.specs.Level.{level_at, add_level, add_joined, joined_at, level_step, Fits, HasWords};
+ghost use Rattle.propagate.specs.Marked.{RowsMarked, LevelsMarked};
 
+use crate::adding::{RowOf, add_to};
+use crate::back::go_back;
 use crate::graph::Graph;
 use crate::layout::{add_node, node_row};
-use rows::{Joined, Report, Row, add, ahead, both, go_back, is_none, join, mask, row_at, turn};
+use rows::{Joined, Report, Row, ahead, both, is_none, join, mask, row_at, turn};
 use table::Family;
 
 // That a fixed point fits the memory (`Fits`), and that a level is one of its n, is asked in the contracts and is no invariant: `Fits` speaks of the lent
 // words too, which change hands at each call, and the definitions speak of fixed points anywhere. Graph, rows, words, fixed point and level are handed on
 // one by one, since some are changed and some are lent in parts. `every` is a bool, as `turn` takes it.
 
-// A fixed-point node: its family, its number and children, whether it is of every path, and where its levels lie.
+// A fixed-point node: its family, its number and children, whether it is of every path, where its levels lie, and where their words do.
 #[derive(Clone, Copy)]
 pub struct Fixpoint {
     pub family: Family,
@@ -22,6 +26,7 @@ pub struct Fixpoint {
     pub b: usize,
     pub every: bool,
     pub base: usize,
+    pub word: usize,
 }
 
 pub fn level_row(rows: &[u32; 130], words: &[u32], n: usize, x: Fixpoint, m: usize) -> Row
@@ -39,24 +44,32 @@ pub fn level_row(rows: &[u32; 130], words: &[u32], n: usize, x: Fixpoint, m: usi
 }
 
 fn add_level(
+    graph: &Graph,
     rows: &mut [u32; 130],
     words: &mut [u32],
-    n: usize,
+    looks: &mut [u32],
     x: Fixpoint,
     m: usize,
     r: Row,
 ) -> Report
-    requires fits { Fits n x rows.old words.old }
-    requires m_le_n { m ≤ n }
-    ensures { stepped rows.new words.new result ≡ add_level n x m r (memory rows.old words.old) }
+    requires fits { Fits graph.now.states x rows.old words.old }
+    requires has_words { HasWords graph.now.states x looks.old }
+    requires room { words_end graph.now.readers ≤ length looks.old }
+    requires m_le_n { m ≤ graph.now.states }
+    ensures value { stepped rows.new words.new result ≡ add_level graph.now.states x m r (memory rows.old words.old) }
+    ensures marked { RowsMarked graph.now.readers looks.old looks.new rows.old rows.new }
+    ensures calm { result.changed ≡ false → looks.new ≡ looks.old }
+    ensures levels { LevelsMarked graph.now.readers graph.now.states x looks.old looks.new words.old words.new }
 {
     if m == 0 {
-        return add_node(rows, x.b, r);
+        return add_node(graph, rows, looks, x.b, r);
     }
-    if m == n {
-        return add_node(rows, x.node, r);
+    if m == graph.states {
+        return add_node(graph, rows, looks, x.node, r);
     }
-    add(words, x.base + 2 * (m - 1), r)
+    let place = x.base + 2 * (m - 1);
+    let word = x.word + (m - 1);
+    add_to(&graph.readers, words, place, r, looks, RowOf::Level(word))
 }
 
 // What is known around level m + 1 at the states of a set, joined: the level, a and b, and N over the level below.
@@ -84,24 +97,33 @@ fn joined_at(
 
 // Adds what the join gives to the level, a and b.
 fn add_joined(
+    graph: &Graph,
     rows: &mut [u32; 130],
     words: &mut [u32],
-    n: usize,
+    looks: &mut [u32],
     x: Fixpoint,
     m: usize,
     j: Joined,
 ) -> Report
-    requires fits { Fits n x rows.old words.old }
-    requires m_lt_n { (m < n) × (n ≤ 32) }
-    ensures { stepped rows.new words.new result ≡ add_joined rows.old n x m j (memory rows.old words.old) }
+    requires fits { Fits graph.now.states x rows.old words.old }
+    requires has_words { HasWords graph.now.states x looks.old }
+    requires room { words_end graph.now.readers ≤ length looks.old }
+    requires m_lt_n { m < graph.now.states }
+    ensures value { stepped rows.new words.new result ≡ add_joined graph.now.targets graph.now.states x m j (memory rows.old words.old) }
+    ensures marked { RowsMarked graph.now.readers looks.old looks.new rows.old rows.new }
+    ensures calm { result.changed ≡ false → looks.new ≡ looks.old }
+    ensures levels { LevelsMarked graph.now.readers graph.now.states x looks.old looks.new words.old words.new }
 {
     let start = Report {
         fails: j.fails,
         ..Report::default()
     };
-    let first = both(start, add_level(rows, words, n, x, m + 1, j.level));
-    let second = both(first, add_node(rows, x.a, j.a));
-    both(second, add_node(rows, x.b, j.b))
+    let first = both(
+        start,
+        add_level(graph, rows, words, looks, x, m + 1, j.level),
+    );
+    let second = both(first, add_node(graph, rows, looks, x.a, j.a));
+    both(second, add_node(graph, rows, looks, x.b, j.b))
 }
 
 // Back from N to the steps and the level below, with what is known of N beside what its ends say.
@@ -109,29 +131,29 @@ fn level_back(
     graph: &Graph,
     rows: &mut [u32; 130],
     words: &mut [u32],
+    looks: &mut [u32],
     x: Fixpoint,
     m: usize,
     more: Row,
     below: Row,
 ) -> Report
     requires fits { Fits graph.now.states x rows.old words.old }
+    requires has_words { HasWords graph.now.states x looks.old }
+    requires room { words_end graph.now.readers ≤ length looks.old }
     requires m_lt_n { m < graph.now.states }
-    ensures { stepped rows.new words.new result ≡ go_back_more graph.now.targets graph.now.states x.every more below (add_level graph.now.states x m) (memory rows.old words.old) }
+    ensures value { stepped rows.new words.new result ≡ go_back_more graph.now.targets graph.now.states x.every more below (add_level graph.now.states x m) (memory rows.old words.old) }
+    ensures marked { RowsMarked graph.now.readers looks.old looks.new rows.old rows.new }
+    ensures calm { result.changed ≡ false → looks.new ≡ looks.old }
+    ensures levels { LevelsMarked graph.now.readers graph.now.states x looks.old looks.new words.old words.new }
 {
     if is_none(more) {
         return Report::default();
     }
     let every = x.every;
-    let k = go_back(
-        &graph.targets,
-        rows,
-        graph.states,
-        turn(every, more),
-        turn(every, below),
-    );
+    let k = go_back(graph, rows, looks, turn(every, more), turn(every, below));
     both(
         k.report,
-        add_level(rows, words, graph.states, x, m, turn(every, k.end)),
+        add_level(graph, rows, words, looks, x, m, turn(every, k.end)),
     )
 }
 
@@ -140,16 +162,25 @@ pub fn level_step(
     graph: &Graph,
     rows: &mut [u32; 130],
     words: &mut [u32],
+    looks: &mut [u32],
     x: Fixpoint,
     m: usize,
     look: u32,
 ) -> Report
     requires fits { Fits graph.now.states x rows.old words.old }
+    requires has_words { HasWords graph.now.states x looks.old }
+    requires room { words_end graph.now.readers ≤ length looks.old }
     requires m_lt_n { m < graph.now.states }
-    ensures { stepped rows.new words.new result ≡ level_step graph.now.targets graph.now.states x m look (memory rows.old words.old) }
+    ensures value { stepped rows.new words.new result ≡ level_step graph.now.targets graph.now.states x m look (memory rows.old words.old) }
+    ensures marked { RowsMarked graph.now.readers looks.old looks.new rows.old rows.new }
+    ensures calm { result.changed ≡ false → looks.new ≡ looks.old }
+    ensures levels { LevelsMarked graph.now.readers graph.now.states x looks.old looks.new words.old words.new }
 {
     let below = level_row(rows, words, graph.states, x, m);
     let j = joined_at(graph, rows, words, x, m, look, below);
-    let first = add_joined(rows, words, graph.states, x, m, j);
-    both(first, level_back(graph, rows, words, x, m, j.more, below))
+    let first = add_joined(graph, rows, words, looks, x, m, j);
+    both(
+        first,
+        level_back(graph, rows, words, looks, x, m, j.more, below),
+    )
 }

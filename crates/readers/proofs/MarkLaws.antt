@@ -1,9 +1,9 @@
 -- Laws of words that only grow: what is marked stays marked, and the members of a set are gone through one by one.
-use Prim.Native.Nat.{ℕ, ◌^◌, ◌<◌}
+use Prim.Native.Nat.{ℕ, suc, ◌-◌, ◌^◌, ◌<◌}
 use native.Mathlib.Decide.{ℕ_discrete}
 use mathlib.Core.Path.{◌≡◌, refl, sym, ap, subst, ◌∙◌}
 use mathlib.Core.Bool.{Bool, true, false, not, ◌&&◌, ◌||◌, true≢false}
-use mathlib.Core.Logic.{inl, inr}
+use mathlib.Core.Logic.{inl, inr, ⊎_elim}
 use mathlib.Core.List.{List}
 use borrow.Author.Tests.{eqb-true, eq-eqb}
 use lib.Bits.{bit_or}
@@ -11,22 +11,29 @@ use lib.Dec.{eqb}
 use lib.ListN.{length, get_or, set, length-set}
 use lib.Seq.{get_or-set_same, get_or-set_other}
 use Rattle.sets.specs.Member.{member, set_of}
-use Rattle.sets.proofs.Laws.{member-zero, member_inside}
+use Rattle.sets.proofs.Laws.{member-or, member-zero, member_inside}
 use Rattle.sets.proofs.SetOf.{member-set_of-below}
 use Rattle.sets.proofs.Walk.{others}
-use Rattle.table.proofs.Bools.{or_right, same_test}
+use Rattle.table.proofs.Bools.{or_right, or_neither, same_test}
 use Rattle.rows.specs.declared.row.Row.{Row}
-use Rattle.rows.specs.Row.{known, without, Within}
+use Rattle.rows.specs.Row.{known, without, union}
 use Rattle.rows.specs.Words.{SmallRow}
-use Rattle.readers.specs.Readers.{Raised, NodeMarked, KeptMarked, StepsMarked, Differ, grown}
-use Rattle.rows.proofs.RowLaws.{or-true, without-true}
+use Rattle.readers.specs.declared.who_reads.Readers.{Readers}
+use Rattle.readers.specs.Reads.{AgreeAt}
+use Rattle.readers.specs.Readers.{grown}
+use Rattle.readers.specs.Marked.{Raised, NodeMarked, KeptMarked, StepsMarked, LevelMarked}
+use Rattle.rows.proofs.RowLaws.{or-true, without-true, union-true}
 
 -- ---- words that only grow
 
 pub raised_then : {a b c : List ℕ} → Raised a b → Raised b c → Raised a c
 raised_then p q = record { same_length = q.same_length ∙ p.same_length; stays = λ k s m. q.stays k s (p.stays k s m) }
 
--- the members of a set put into word k
+-- word k has the members of a set
+abbrev pub Has : List ℕ → ℕ → ℕ → Type 0
+Has words set k = (s : ℕ) → member set s ≡ true → member (get_or words k 0) s ≡ true
+
+-- they are put into it
 module _ (words : List ℕ) (k more : ℕ) (h : k < length words) where
   abbrev pub with_more : List ℕ
   with_more = set words k (bit_or (get_or words k 0) more)
@@ -34,7 +41,7 @@ module _ (words : List ℕ) (k more : ℕ) (h : k < length words) where
   at_k : get_or with_more k 0 ≡ bit_or (get_or words k 0) more
   at_k = get_or-set_same words k (bit_or (get_or words k 0) more) 0 h
 
-  pub put_has : (s : ℕ) → member more s ≡ true → member (get_or with_more k 0) s ≡ true
+  pub put_has : Has with_more more k
   put_has s m = ap (λ (w : ℕ). member w s) at_k ∙ (or-true (get_or words k 0) more s).1 (inr m)
 
   put_stays : (j s : ℕ) → member (get_or words j 0) s ≡ true → member (get_or with_more j 0) s ≡ true
@@ -49,48 +56,44 @@ module _ (words : List ℕ) (k more : ℕ) (h : k < length words) where
 
 -- ---- the marks of a change
 
-module _ {readers looks looks' : List ℕ} (r : Raised looks looks') where
-  pub marked_more : {c set : ℕ} → NodeMarked readers looks c set → NodeMarked readers looks' c set
-  marked_more {c} {set} m = record {
-    own = λ t e. r.stays c t (m.own t e);
-    here = λ i t p e. r.stays i t (m.here i t p e);
-    behind = λ i t s p e q. r.stays i s (m.behind i t s p e q);
+module _ {looks looks' : List ℕ} (more : Raised looks looks') (r : Readers) where
+  pub marked_more : {c t : ℕ} → NodeMarked r looks c t → NodeMarked r looks' c t
+  marked_more {c} {t} m = record {
+    own = more.stays (get_or r.first (suc c) 0 - 1) t m.own;
+    here = λ i k p q. more.stays k t (m.here i k p q);
+    behind = λ i s p q e. more.stays (get_or r.first i 0) s (m.behind i s p q e);
   }
 
-  pub kept_marked_more : {set : ℕ} → KeptMarked readers looks set → KeptMarked readers looks' set
-  kept_marked_more m = record { here = λ t e. r.stays 32 t (m.here t e); behind = λ t s e q. r.stays 32 s (m.behind t s e q) }
+  pub kept_marked_more : {t : ℕ} → KeptMarked r looks t → KeptMarked r looks' t
+  kept_marked_more {t} m = record { here = more.stays 0 t m.here; behind = λ s e. more.stays 0 s (m.behind s e) }
 
--- no change leaves no marks to make
-no_member : (set : ℕ) → set ≡ 0 → (t : ℕ) → member set t ≡ true → ⊥
-no_member set e t m = true≢false (sym m ∙ ap (λ (w : ℕ). member w t) e ∙ member-zero t)
+  pub steps_marked_more : {s : ℕ} → StepsMarked r looks s → StepsMarked r looks' s
+  steps_marked_more {s} m = record { kept = more.stays 0 s m.kept; nodes = λ i k p q. more.stays k s (m.nodes i k p q) }
 
-pub node_unchanged : (readers looks : List ℕ) (c set : ℕ) → set ≡ 0 → NodeMarked readers looks c set
-node_unchanged readers looks c set e = record {
-  own = λ t m. absurd (no_member set e t m);
-  here = λ i t p m. absurd (no_member set e t m);
-  behind = λ i t s p m q. absurd (no_member set e t m);
-}
+  pub level_marked_more : {k t : ℕ} → LevelMarked r looks k t → LevelMarked r looks' k t
+  level_marked_more {k} {t} m = record { own = more.stays k t m.own; behind = λ s e. more.stays (suc k) s (m.behind s e) }
 
-pub steps_unchanged : (readers looks : List ℕ) (set : ℕ) → set ≡ 0 → StepsMarked readers looks set
-steps_unchanged readers looks set e = record { kept = λ s m. absurd (no_member set e s m); nodes = λ i s p m. absurd (no_member set e s m) }
-
--- outside what has grown the two rows agree
-pub grown_differ : (old new : Row) → SmallRow old → SmallRow new → Within old new → Differ old new (grown old new)
-grown_differ old new p q w t none sign = same_test (known new sign t) (known old sign t) (there sign) (w t sign)
+-- a member of y that x does not miss is one of x
+not_missed : (x y t : ℕ) → x < 2 ^ 32 → y < 2 ^ 32 → member (without y x) t ≡ false → member y t ≡ true → member x t ≡ true
+not_missed x y t p q none m = go (member x t) refl
   where
-    new_yes : member new.yes t ≡ true → (b : Bool) → member old.yes t ≡ b → member old.yes t ≡ true
-    new_yes m true e = e
-    new_yes m false e = absurd (true≢false (sym ((or-true (without new.yes old.yes) (without new.no old.no) t).1
-        (inl ((without-true new.yes old.yes t p.0).1 (member_inside 32 new.yes t q.0 m, m, e)))) ∙ none))
+    go : (b : Bool) → member x t ≡ b → member x t ≡ true
+    go true e = e
+    go false e = absurd (true≢false (sym ((without-true y x t p).1 (member_inside 32 y t q m, m, e)) ∙ none))
 
-    new_no : member new.no t ≡ true → (b : Bool) → member old.no t ≡ b → member old.no t ≡ true
-    new_no m true e = e
-    new_no m false e = absurd (true≢false (sym ((or-true (without new.yes old.yes) (without new.no old.no) t).1
-        (inr ((without-true new.no old.no t p.1).1 (member_inside 32 new.no t q.1 m, m, e)))) ∙ none))
+-- outside what has grown the old row with the new one added agrees with the old row
+pub grown_agrees : (old new : Row) → SmallRow old → SmallRow new → (t : ℕ) → member (grown old new) t ≡ false → AgreeAt t old (union old new)
+grown_agrees old new p q t none sign = same_test (known (union old new) sign t) (known old sign t) (there sign) (λ m. (union-true old new sign t).1 (inl m))
+  where
+    missed : (member (without new.yes old.yes) t ≡ false) × (member (without new.no old.no) t ≡ false)
+    missed = or_neither _ _ (sym (member-or (without new.yes old.yes) (without new.no old.no) t) ∙ none)
 
-    there : (sign : Bool) → known new sign t ≡ true → known old sign t ≡ true
-    there true m = new_yes m (member old.yes t) refl
-    there false m = new_no m (member old.no t) refl
+    from_new : (sign : Bool) → known new sign t ≡ true → known old sign t ≡ true
+    from_new true m = not_missed old.yes new.yes t p.0 q.0 missed.0 m
+    from_new false m = not_missed old.no new.no t p.1 q.1 missed.1 m
+
+    there : (sign : Bool) → known (union old new) sign t ≡ true → known old sign t ≡ true
+    there sign m = ⊎_elim (λ e. e) (from_new sign) ((union-true old new sign t).0 m)
 
 -- ---- the members of a set, one by one
 

@@ -1,2 +1,4 @@
 pub mod Reads
+pub mod Rising
 pub mod Readers
+pub mod Marked

@@ -1,47 +1,62 @@
 -- Who reads what: at t the states with a step into t, at 32 + c the nodes with the child c, at 64 the nodes that read steps. More may stand there: then
--- more is looked at than has to be. What a change puts into the words of `looks` is said row by row.
-use Rattle.std.specs.Prelude.{ℕ, ◌+◌, ◌<◌, ◌≡◌, true, false, List, length, get_or}
+-- more is looked at than has to be. And where the words of the states to look at lie: one for K, and behind it those of each node, one for each row of its
+-- cells, which are its levels, or one row where it has none.
+use Rattle.std.specs.Prelude.{ℕ, suc, ◌+◌, ◌≤◌, ◌<◌, ◌≡◌, true, List, [], ◌∷◌, length, get_or, take}
 use Rattle.std.specs.Int.Bits.{bit_or}
 use Rattle.sets.specs.Member.{member}
 use Rattle.table.specs.Table.{Table, node_at}
+use Rattle.table.specs.declared.record.Node.{Node}
 use Rattle.table.specs.Rows.{target_set}
-use Rattle.ctl.specs.Rule.{operator_of}
+use Rattle.ctl.specs.Rule.{Operator, constant, atom, negation, conjunction, disjunction, next, fixpoint, operator_of}
 use Rattle.rows.specs.declared.row.Row.{Row}
 use Rattle.rows.specs.Rules.{new_of}
-use Rattle.readers.specs.Reads.{is_child, reads_steps, AgreeAt}
+use Rattle.readers.specs.declared.who_reads.Readers.{Readers}
+use Rattle.readers.specs.Reads.{is_child, reads_steps}
 
-pub record AreReaders (T : Table) (readers : List ℕ) : Type 0 where
-  pub size : length readers ≡ 65
-  pub of_state : (s t : ℕ) → s < length T.states → member (target_set T.steps s) t ≡ true → member (get_or readers t 0) s ≡ true
-  pub of_node : (i c : ℕ) → i < length T.nodes → is_child (operator_of (node_at T i)) c ≡ true → member (get_or readers (32 + c) 0) i ≡ true
-  pub of_steps : (i : ℕ) → i < length T.nodes → reads_steps (operator_of (node_at T i)) ≡ true → member (get_or readers 64 0) i ≡ true
+-- ---- where the words lie
 
--- no state leaves its word
-pub record Raised (looks looks' : List ℕ) : Type 0 where
-  pub same_length : length looks' ≡ length looks
-  pub stays : (k s : ℕ) → member (get_or looks k 0) s ≡ true → member (get_or looks' k 0) s ≡ true
+-- how many rows of cells a node has, with n states
+abbrev pub row_count : ℕ → Operator → ℕ
+row_count n (constant b) = 1
+row_count n (atom p) = 1
+row_count n (negation a) = 1
+row_count n (conjunction a b) = 1
+row_count n (disjunction a b) = 1
+row_count n (next q a) = 1
+row_count n (fixpoint fam q a b) = n
 
--- ---- the readers of a change at the states of a set are in their words
+unfoldable pub row_counts : ℕ → List Node → ℕ
+row_counts n [] = 0
+row_counts n (x ∷ xs) = row_count n (operator_of x) + row_counts n xs
 
--- of row c of the nodes: the node itself, and the nodes with the child c there and at each state with a step into the set
-pub record NodeMarked (readers looks : List ℕ) (c set : ℕ) : Type 0 where
-  pub own : (t : ℕ) → member set t ≡ true → member (get_or looks c 0) t ≡ true
-  pub here : (i t : ℕ) → member (get_or readers (32 + c) 0) i ≡ true → member set t ≡ true → member (get_or looks i 0) t ≡ true
-  pub behind : (i t s : ℕ) → member (get_or readers (32 + c) 0) i ≡ true → member set t ≡ true → member (get_or readers t 0) s ≡ true → member (get_or looks i 0) s ≡ true
+-- where the words of node i begin, and how many words there are
+abbrev pub first_word : Table → ℕ → ℕ
+first_word T i = 1 + row_counts (length T.states) (take i T.nodes)
 
--- of the row of K
-pub record KeptMarked (readers looks : List ℕ) (set : ℕ) : Type 0 where
-  pub here : (t : ℕ) → member set t ≡ true → member (get_or looks 32 0) t ≡ true
-  pub behind : (t s : ℕ) → member set t ≡ true → member (get_or readers t 0) s ≡ true → member (get_or looks 32 0) s ≡ true
+abbrev pub word_total : Table → ℕ
+word_total T = 1 + row_counts (length T.states) T.nodes
 
--- of the steps out of the states of the set
-pub record StepsMarked (readers looks : List ℕ) (set : ℕ) : Type 0 where
-  pub kept : (s : ℕ) → member set s ≡ true → member (get_or looks 32 0) s ≡ true
-  pub nodes : (i s : ℕ) → member (get_or readers 64 0) i ≡ true → member set s ≡ true → member (get_or looks i 0) s ≡ true
+pub record AreFirsts (T : Table) (first : List ℕ) : Type 0 where
+  pub size : length first ≡ 33
+  pub at : (i : ℕ) → i ≤ 32 → get_or first i 0 ≡ first_word T i
 
--- the set has every state at which two rows differ
-abbrev pub Differ : Row → Row → ℕ → Type 0
-Differ r q set = (t : ℕ) → member set t ≡ false → AgreeAt t r q
+module _ (r : Readers) where
+  -- word k is one of those of node i
+  abbrev pub OfNode : ℕ → ℕ → Type 0
+  OfNode i k = (get_or r.first i 0 ≤ k) × (k < get_or r.first (suc i) 0)
+
+  -- where all words end
+  abbrev pub words_end : ℕ
+  words_end = get_or r.first 32 0
+
+-- ---- who reads what
+
+pub record AreReaders (T : Table) (r : Readers) : Type 0 where
+  pub size : length r.of ≡ 65
+  pub of_state : (s t : ℕ) → s < length T.states → member (target_set T.steps s) t ≡ true → member (get_or r.of t 0) s ≡ true
+  pub of_node : (i c : ℕ) → i < length T.nodes → is_child (operator_of (node_at T i)) c ≡ true → member (get_or r.of (32 + c) 0) i ≡ true
+  pub of_steps : (i : ℕ) → i < length T.nodes → reads_steps (operator_of (node_at T i)) ≡ true → member (get_or r.of 64 0) i ≡ true
+  pub firsts : AreFirsts T r.first
 
 -- the states of which the new row knows something that the old one does not
 abbrev pub grown : Row → Row → ℕ

@@ -5,10 +5,23 @@ ghost use Rattle.table.specs.Table.{table_of, node_at};
 ghost use Rattle.table.specs.Rows.{target_set};
 ghost use Rattle.ctl.specs.Rule.{operator_of};
 ghost use Rattle.readers.specs.Reads.{is_child, reads_steps};
-ghost use Rattle.readers.specs.Readers.{AreReaders, Raised};
+ghost use Rattle.readers.specs.Marked.{Raised};
+ghost use Rattle.readers.specs.Readers.{AreReaders};
 
-use crate::marking::{NODE_READERS, STEP_READERS, put, raise};
+use crate::marking::{NODE_READERS, STEP_READERS, put};
+use crate::who_reads::Readers;
+use crate::word_places::word_places;
 use table::{Accepted, Operator};
+
+// Adds states to the words of some states.
+fn raise(readers: &mut [u32; 65], states: u32, set: u32)
+    ensures raised { Raised readers.old readers.new }
+    ensures added { (t s : ℕ) → member states t ≡ true → member set s ≡ true → member (get_or readers.new t 0) s ≡ true }
+{
+    for t in sets::members_of(states) {
+        put(readers, t, set);
+    }
+}
 
 // A state reads the ends of the steps out of it.
 fn state_readers(targets: &[u32; 32], n: usize, readers: &mut [u32; 65])
@@ -67,12 +80,13 @@ fn node_readers(table: &Accepted<'_>, readers: &mut [u32; 65])
 }
 
 // More may stand there than reads it.
-pub fn readers_of(table: &Accepted<'_>, targets: &[u32; 32]) -> [u32; 65]
+pub fn readers_of(table: &Accepted<'_>, targets: &[u32; 32]) -> Readers
     requires targets_at { (s : ℕ) → s < 32 → get_or targets.now s 0 ≡ target_set (table_of table.now.bytes.now).steps s }
     ensures { AreReaders (table_of table.now.bytes.now) result }
 {
-    let mut readers = [0u32; 65];
-    state_readers(targets, table.state_count(), &mut readers);
-    node_readers(table, &mut readers);
-    readers
+    let mut of = [0u32; 65];
+    state_readers(targets, table.state_count(), &mut of);
+    node_readers(table, &mut of);
+    let first = word_places(table);
+    Readers { of, first }
 }

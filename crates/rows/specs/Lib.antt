@@ -1,5 +1,5 @@
 pub mod Row
 pub mod Rules
 pub mod Words
-pub mod Back
+pub mod Pushed
 pub mod Steps

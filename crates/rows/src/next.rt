@@ -1,11 +1,11 @@
 // N, the AND over the steps out of a state of "struck, or the end has it", forward and back.
-ghost use Rattle.std.specs.Prelude.{◌≡◌, ◌≤◌, true, false, get_or};
+ghost use Rattle.std.specs.Prelude.{◌≡◌, true, false, get_or};
 ghost use Rattle.rows.specs.Row.{known};
 ghost use Rattle.rows.specs.Rules.{ahead_at};
 ghost use Rattle.rows.specs.Words.{row_at, step_place};
-ghost use Rattle.rows.specs.Back.{pushed, back_rows, back_row, back_report};
+ghost use Rattle.rows.specs.Pushed.{pushed};
 
-use crate::row::{Report, Row, add_step, both, last_left, step_row, union};
+use crate::row::{Row, last_left, step_row};
 
 // N at each state of a set: true where no step is left, false where a kept step's end is known false.
 pub fn ahead(targets: &[u32; 32], rows: &[u32; 130], set: u32, end: Row) -> Row
@@ -30,7 +30,7 @@ pub struct Pushed {
 }
 
 // N at each state is known as `ahead` says.
-fn push(s: usize, target: u32, step: Row, ahead: Row, end: Row) -> Pushed
+pub fn push(s: usize, target: u32, step: Row, ahead: Row, end: Row) -> Pushed
     ensures { result ≡ pushed target step end (known ahead true s) (known ahead false s) }
 {
     let unmet = target & !(step.no | end.yes);
@@ -51,31 +51,4 @@ fn push(s: usize, target: u32, step: Row, ahead: Row, end: Row) -> Pushed
         steps: Row { yes: last, no: 0 },
         end: Row { yes: 0, no: last },
     }
-}
-
-// What going back from N found: what is added to the row of the ends, and the report on the step rows.
-#[derive(Clone, Copy)]
-pub struct Back {
-    pub end: Row,
-    pub report: Report,
-}
-
-// Adds to the step rows what N, known at each state as `ahead` says, forces of them.
-pub fn go_back(targets: &[u32; 32], rows: &mut [u32; 130], n: usize, ahead: Row, end: Row) -> Back
-    requires { n ≤ 32 }
-    ensures end_value { result.end ≡ back_row targets.now ahead end rows.old n }
-    ensures report_value { result.report ≡ back_report targets.now ahead end rows.old n }
-    ensures rows_after { rows.new ≡ back_rows targets.now ahead end rows.old n }
-{
-    let mut back = Back {
-        end: Row::default(),
-        report: Report::default(),
-    };
-    for s in 0..n {
-        let x = step_row(rows, s);
-        let p = push(s, targets[s], x, ahead, end);
-        back.end = union(back.end, p.end);
-        back.report = both(back.report, add_step(rows, s, p.steps));
-    }
-    back
 }

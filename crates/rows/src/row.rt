@@ -2,7 +2,7 @@
 ghost use Rattle.std.specs.Prelude.{◌≡◌, ◌+◌, ◌<◌, ◌&&◌, cond, length};
 ghost use Rattle.rows.specs.Row.{turned, only, union, clashes};
 ghost use Rattle.rows.specs.Rules.{masked, new_of, is_none};
-ghost use Rattle.rows.specs.Words.{row_at, joined, report_of, step_report, both_reports, quiet, step_place};
+ghost use Rattle.rows.specs.Words.{row_at, joined, report_of, both_reports, quiet, step_place};
 
 // The states where the variable is known true, and those where it is known false.
 #[derive(Clone, Copy, PartialEq, Eq, Default)]
@@ -11,13 +11,12 @@ pub struct Row {
     pub no: u32,
 }
 
-// What a rule did: whether it added a bit, whether something is now known both ways, and the states whose steps got a bit. By default it did nothing.
-// A rule that fails may still have added bits, so the flags stand beside the set and are no option of it.
+// What a rule did: whether it added a bit, and whether something is now known both ways. By default it did neither. A rule that fails may still have
+// added bits, so these are two flags.
 #[derive(Clone, Copy, PartialEq, Eq, Default)]
 pub struct Report {
     pub changed: bool,
     pub fails: bool,
-    pub steps: u32,
 }
 
 // The row itself, or its dual, known true and known false exchanged.
@@ -39,7 +38,6 @@ pub fn both(a: Report, b: Report) -> Report
     Report {
         changed: a.changed | b.changed,
         fails: a.fails | b.fails,
-        steps: a.steps | b.steps,
     }
 }
 
@@ -131,7 +129,6 @@ pub fn add(words: &mut [u32], at: usize, x: Row) -> Report
     Report {
         changed: all != old,
         fails: clashes(all),
-        steps: 0,
     }
 }
 
@@ -142,17 +139,4 @@ pub fn step_row(rows: &[u32; 130], s: usize) -> Row
     ensures { result ≡ row_at rows.now (step_place s) }
 {
     row_at(rows, 2 * s)
-}
-
-// Adds to it; the report says whether the steps out of s got a bit.
-pub fn add_step(rows: &mut [u32; 130], s: usize, x: Row) -> Report
-    requires { s < 32 }
-    ensures value { result ≡ step_report rows.old s x }
-    ensures rows_after { rows.new ≡ joined rows.old (step_place s) x }
-{
-    let r = add(rows, 2 * s, x);
-    Report {
-        steps: sets::insert_if(0, s, r.changed),
-        ..r
-    }
 }

@@ -14,7 +14,7 @@ use Rattle.table.specs.declared.record.Step.{Step}
 use Rattle.table.specs.declared.refusal.Refusal.TheVariants.{Length}
 use Rattle.std.specs.Prelude.{Ok}
 use Rattle.table.specs.Verdict.{require}
-use Rattle.table.specs.Table.{Table, table_of, counts_of, packed_length, header_width, record_width, state_width, step_width, node_width, states_part, steps_part, nodes_part, state_of, step_of, node_of, zero_state, zero_node, state_at, step_at, node_at}
+use Rattle.table.specs.Table.{Table, table_of, counts_of, packed_length, header_width, record_width, state_width, step_width, node_width, states_part, steps_part, nodes_part, state_of, step_of, node_of, zero_state, state_at, step_at, node_at}
 use Rattle.table.specs.Accept.{all, any, distinct, counts_fit, state_fits, is_initial, step_fits, node_fits, nodes_fit, records_verdict, table_verdict}
 use Rattle.table.specs.Facts.{Wellformed, Packed}
 use Rattle.table.proofs.Bools.{and_parts}
@@ -25,9 +25,6 @@ use Rattle.table.proofs.Verdicts.{then_accepted, require_accepted}
 -- the record that a section has at a number below the count is the table's record of that number
 pub state_read_lem : (bytes : List ℕ) (s : ℕ) → s < (counts_of bytes).states → state_of (drop (state_width * s) (states_part bytes)) ≡ state_at (table_of bytes) s
 state_read_lem bytes s h = sym (records_at state_of state_width (counts_of bytes).states (states_part bytes) s zero_state h)
-
-pub node_read_lem : (bytes : List ℕ) (i : ℕ) → i < (counts_of bytes).nodes → node_of (drop (node_width * i) (nodes_part bytes)) ≡ node_at (table_of bytes) i
-node_read_lem bytes i h = sym (records_at node_of node_width (counts_of bytes).nodes (nodes_part bytes) i zero_node h)
 
 -- the same at any number: past the last record all reads as zeros
 no_longer : (size : ℕ) (bytes : List ℕ) → length (take size bytes) ≤ size

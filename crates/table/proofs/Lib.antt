@@ -11,5 +11,4 @@ pub mod Scan
 pub mod Rows
 pub mod TargetSets
 pub mod Facts
-pub mod ReadNode
 pub mod FixpointKind

@@ -21,7 +21,8 @@ pub enum Quantifier {
     Some,
 }
 
-// The children stand by their numbers, as in the table that the caller lends: there is no heap to hold a tree. A fixed point has two: level 0 is the set of the second. The one child of F and G stands in both places.
+// The children stand by their numbers, as in the table that the caller lends: there is no heap to hold a tree. A fixed point has two: level 0 is the set
+// of the second. The one child of F and G stands in both places.
 #[derive(Clone, Copy)]
 pub enum Operator {
     Constant(bool),

@@ -21,11 +21,12 @@ use Rattle.readers.specs.Reads.{reads_steps, AgreeAt}
 use Rattle.closure.specs.Knowledge.{Knowledge, knowledge, Sized, second_child, level_base}
 use Rattle.closure.specs.Inside.{Inside}
 use Rattle.closure.specs.Advance.{ForcedBy}
-use Rattle.events.specs.Watched.{SameKept, SameNode, More, RestBut}
+use Rattle.events.specs.Watched.{SameKept, SameCell, More, RestBut}
 use Rattle.closure.proofs.Ends.{target_true}
 use Rattle.events.proofs.Closing.{small_knowledge}
 use Rattle.closure.proofs.RestBackFull.{OfTable}
-use Rattle.events.proofs.Frame.{frame_kept, frame_node}
+use Rattle.events.proofs.Frame.{frame_kept, frame_cell}
+use Rattle.events.proofs.VisitAll.{cell_of, cells_of}
 use Rattle.search.specs.StepRows.{with_step, changed_by}
 use Rattle.walk.specs.Stands.{Resting}
 use Rattle.walk.proofs.OneMore.{more_new}
@@ -78,22 +79,22 @@ module _ (T : Table) (wf : Wellformed T) (rows words : List ℕ) (sized : Sized 
     ends = λ t m. row_agrees _ _ (other kept_place (omega arith)) t;
   }
 
-  same_node : (i : ℕ) (o : Operator) (s : ℕ) → (reads_steps o ≡ true → member (changed_by T j) s ≡ false) → SameNode T K K' i o s
-  same_node i o s out = record {
-    own = row_agrees _ _ (other (node_place i) (omega arith)) s;
-    child = λ c e. (row_agrees _ _ (other (node_place c) (omega arith)) s, λ t m. row_agrees _ _ (other (node_place c) (omega arith)) t);
+  same_cell : (i m : ℕ) (o : Operator) (s : ℕ) → (reads_steps o ≡ true → member (changed_by T j) s ≡ false) → SameCell T K K' i m o s
+  same_cell i m o s out = record {
+    own = λ plain. row_agrees _ _ (other (node_place i) (omega arith)) s;
+    child = λ c e. row_agrees _ _ (other (node_place c) (omega arith)) s;
+    ends = λ plain c e t l. row_agrees _ _ (other (node_place c) (omega arith)) t;
     steps = λ r. apart s (out r);
-    levels = λ e m h. (row_agrees _ _ (levels_same i (suc m)) s, λ t l. row_agrees _ _ (levels_same i m) t);
+    levels = λ e. (row_agrees _ _ (levels_same i (suc m)) s, λ t l. row_agrees _ _ (levels_same i m) t);
   }
 
   pub chosen_rest : (P : List (Literal Var)) → Inside T (ForcedBy T P) K → Resting T (memory rows words) → RestBut T (changed_by T j) (knowledge T (memory (with_step T rows sign j) words))
   chosen_rest P known_in rest = record {
     kept = λ s h out. frame_kept T K K' bits_come s (same_kept s out) (rest.kept s h (member-zero s));
     nodes = λ i l s h out.
-        let same = same_node i (operator_of (node_at T i)) s out in
-        let was = rest.nodes i l s h (λ r. member-zero s) in (
-          frame_node T wf K K' (small_knowledge sized) (small_knowledge (chosen_sized T wf rows words sized sign j inside))
-              (steps_of_table T wf (memory rows words) P known_in) bits_come i s h (operator_of (node_at T i)) same was.0,
-          λ y n. was.1 (sym (same.own true) ∙ y) (sym (same.own false) ∙ n),
-        );
+        let o = operator_of (node_at T i) in
+        cells_of T (memory next words) i o s wf.some_state (λ m few.
+        frame_cell T wf K K' (small_knowledge sized) (small_knowledge (chosen_sized T wf rows words sized sign j inside))
+        (steps_of_table T wf (memory rows words) P known_in) bits_come i m s h o (same_cell i m o s out)
+        (cell_of T K i m o s few (rest.nodes i l s h (λ r. member-zero s))));
   }

@@ -40,15 +40,15 @@ pub left_whole : {levels from : ℕ} (mid after : List ℕ) {rest : List ℕ} �
 left_whole {levels} {from} mid after is h =
     is ∙ sym (ap (λ (b : Bool). cond b (replicate (length (whole_with from mid after)) 0) (whole_with from mid after)) (le-ltb from levels h))
 
-module _ {levels : ℕ} {words mid : List ℕ} {from : ℕ} (keeps : Keeps levels words mid from) where
+module _ {levels room : ℕ} {words mid : List ℕ} {from : ℕ} (keeps : Keeps levels room words mid from) where
   pub part_start : from ≤ length mid
-  part_start = omega (arith, keeps.room, keeps.size)
+  part_start = omega (arith, keeps.room_left, keeps.size)
 
   part_all : part_from from mid ≡ drop from mid
   part_all = take_all (length mid - from) (drop from mid) (omega (arith, length-drop from mid))
 
-  pub part_long : levels ≤ length (take (length mid - from) (drop from mid))
-  part_long = omega (arith, ap length part_all, length-drop from mid, keeps.room, keeps.size)
+  pub part_long : room ≤ length (take (length mid - from) (drop from mid))
+  part_long = omega (arith, ap length part_all, length-drop from mid, keeps.room_left, keeps.size)
 
   part_agrees : (k : ℕ) → k < levels → get_or (part_from from mid) k 0 ≡ get_or words k 0
   part_agrees k h = ap (λ (xs : List ℕ). get_or xs k 0) part_all ∙ get_or-drop from mid k 0 ∙ keeps.copy k h

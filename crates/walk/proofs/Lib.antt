@@ -5,6 +5,7 @@ pub mod Chosen
 pub mod Zeroed
 pub mod ChosenRest
 pub mod SameWords
+pub mod Parted
 pub mod Lent
 pub mod StepMarks
 pub mod Fewer

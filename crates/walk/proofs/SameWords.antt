@@ -18,6 +18,8 @@ use Rattle.rows.specs.Words.{row_at}
 use Rattle.propagate.specs.Memory.{memory, node_place}
 use Rattle.closure.specs.Knowledge.{Knowledge, knowledge, level_total, level_base, second_child}
 use Rattle.closure.specs.Rest.{RestBack, RestKept, RestBoth, RestSame, RestLevel, RestNode}
+use Rattle.closure.specs.Inside.{Inside}
+use Rattle.closure.specs.Advance.{ForcedBy}
 use Rattle.closure.specs.Closes.{Between}
 use Rattle.events.specs.Watched.{RestBut}
 use Rattle.closure.proofs.LevelsFit.{level-place}
@@ -100,18 +102,16 @@ module _ (T : Table) (rows words words' : List ℕ) (agree : (k : ℕ) → k < l
             no = sym (agree (at + 1) (omega (arith, place, some, inner, l))) k;
           }
 
-  pub words_between : (P : List (Literal Var)) → Between T P (memory rows words) → Between T P (memory rows words')
-  words_between P b = record {
-    of_steps = b.of_steps;
-    above = b.above;
-    below = record {
-      steps = b.below.steps;
-      kept = b.below.kept;
-      nodes = b.below.nodes;
-      levels = λ i fam q x y m h o l sign s e.
-          b.below.levels i fam q x y m h o l sign s (ap (λ (r : Row). known r sign s) (level_same i fam q x y m h o l) ∙ e);
-    };
+  pub words_inside : (F : Literal Var → Type 0) → Inside T F (knowledge T (memory rows words)) → Inside T F (knowledge T (memory rows words'))
+  words_inside F b = record {
+    steps = b.steps;
+    kept = b.kept;
+    nodes = b.nodes;
+    levels = λ i fam q x y m h o l sign s e. b.levels i fam q x y m h o l sign s (ap (λ (r : Row). known r sign s) (level_same i fam q x y m h o l) ∙ e);
   }
+
+  pub words_between : (P : List (Literal Var)) → Between T P (memory rows words) → Between T P (memory rows words')
+  words_between P b = record { of_steps = b.of_steps; above = b.above; below = words_inside (ForcedBy T P) b.below }
 
   pub words_rest : (set : ℕ) → RestBut T set (knowledge T (memory rows words)) → RestBut T set (knowledge T (memory rows words'))
   words_rest set r = record {

@@ -1,6 +1,7 @@
 // The two tries in code: what a closure comes to, and the search of a table.
 #![tactic(auto)]
 
+mod parts;
 mod reach;
 mod start;
 mod tries;

@@ -1,13 +1,16 @@
 // What the closure of what was chosen comes to.
+ghost use Rattle.std.specs.Prelude.{◌≤◌, length};
 ghost use Rattle.std.specs.Option.{ForSome};
 ghost use Rattle.closure.specs.Knowledge.{knowledge, Sized};
 ghost use Rattle.propagate.specs.Memory.{memory};
 ghost use Rattle.events.specs.NetTable.{table_in};
 ghost use Rattle.closure.specs.Advance.{Founded};
 ghost use Rattle.events.specs.Watched.{RestBut};
+ghost use Rattle.walk.specs.KeptWords.{room_total};
 ghost use Rattle.walk.specs.Stands.{ComesOf, Reaches};
 
-use events::{Net, close};
+use crate::parts::close_parts;
+use events::Net;
 use search::{lowest_unsettled, struck_price, undercuts, write_list};
 
 // The cheapest find, or the lowest step left unsettled: no Result, for both are values to go on with, and neither is an error.
@@ -52,10 +55,11 @@ pub fn reach(
     changed: Option<u32>,
 ) -> Reached
     requires sized { Sized (table_in net.now) (memory rows.old words.old) }
+    requires words_room { room_total (table_in net.now) ≤ length words.old }
     requires founded { Founded (table_in net.now) (memory rows.old words.old) }
     requires rest_but { ForSome changed (λ set. RestBut (table_in net.now) set (knowledge (table_in net.now) (memory rows.old words.old))) }
     ensures { Reaches (table_in net.now) best (memory rows.old words.old) (memory rows.new words.new) find.old find.new result }
 {
-    let closed = close(net, rows, words, changed);
+    let closed = close_parts(net, rows, words, changed);
     assess(net, rows, closed, best, find)
 }

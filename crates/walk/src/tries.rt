@@ -1,8 +1,8 @@
 // The two tries of a step. The functions call each other, unsettled steps falling.
 ghost use Rattle.std.specs.Prelude.{◌≡◌, false, ◌≤◌, length};
-ghost use Rattle.closure.specs.Knowledge.{level_total};
 ghost use Rattle.propagate.specs.Memory.{memory};
 ghost use Rattle.events.specs.NetTable.{table_in};
+ghost use Rattle.walk.specs.KeptWords.{room_total};
 ghost use Rattle.walk.specs.Stands.{GoesOn, Resting, Somewhere, GivesFrom, walk_from, try_from};
 
 use crate::reach::{Reached, reach};
@@ -22,14 +22,14 @@ pub fn both_ways(
     find: &mut [u8; 128],
     words: &mut [u32],
 ) -> Result<Passed, Cut>
-    requires words_room { level_total (table_in net.now) ≤ length words.old }
+    requires words_room { room_total (table_in net.now) ≤ length words.old }
     requires made_le_cap { count.made ≤ count.cap }
     requires resting { Resting (table_in net.now) (memory rows.now words.old) }
     requires somewhere { Somewhere (GoesOn (table_in net.now) j (memory rows.now words.old) best find.old) }
     ensures { GivesFrom (GoesOn (table_in net.now) j (memory rows.now words.old) best find.old) (table_in net.now) (λ P m b. walk_from (table_in net.now) count.cap j P m b count.made) find.new result }
 {
     let cap = count.cap;
-    let from = keep(words, net.bases.total);
+    let from = keep(words, net.bases.total, net.room());
     let first = one_way(
         net,
         rows,
@@ -64,7 +64,7 @@ fn one_way(
     words: &mut [u32],
     fresh: bool,
 ) -> Result<Passed, Cut>
-    requires words_room { level_total (table_in net.now) ≤ length words.old }
+    requires words_room { room_total (table_in net.now) ≤ length words.old }
     requires made_le_cap { count.made ≤ count.cap }
     requires resting { «fresh» ≡ false → Resting (table_in net.now) (memory rows.now words.old) }
     requires somewhere { Somewhere (GoesOn (table_in net.now) j (memory rows.now words.old) best find.old) }

@@ -11,10 +11,10 @@ use Rattle.std.proofs.lemmas.Result.{err_from_is_err_and}
 use Rattle.table.specs.declared.refusal.Refusal.TheVariants.{ShortBuffer}
 use Rattle.table.specs.Table.{table_of}
 use Rattle.table.proofs.Facts.{accepted}
-use Rattle.closure.specs.Knowledge.{level_total}
-use Rattle.closure.proofs.LevelsFit.{levels_fit}
+use Rattle.closure.proofs.WordsFit.{words_fit}
 use Rattle.search.specs.Answer.{outcome_of}
 use Rattle.search.specs.TableSearch.{search_under}
+use Rattle.walk.specs.KeptWords.{room_total}
 use Rattle.repair.specs.Outcome.{written_after}
 use Rattle.repair.proofs.Cleared.{front_filled, lent_filled}
 use Rattle.repair.proofs.Order.{table_refused, short_list, short_bytes, short_words, long_enough, left}
@@ -64,15 +64,15 @@ run-outcome-requires-clause-list_room c =
     let steps = c.step_count-e.ensures ∙ sym (steps_same c.new-net.result.table.bytes.now c.new-accepted.result.bytes.now c.new-net.ensures) in
     omega (arith, steps)
 
--- the first V words have room for those of the levels
+-- the first V words have room for a closure
 pub run-outcome-requires-clause-words_room : goal.run-outcome-requires-clause-words_room
 run-outcome-requires-clause-words_room c =
     let table = c.args.table.now in
     let ok = sym c.check_table.ensures ∙ c.in_ok-check_table.was in
-    let fit = levels_fit (table_of table) (accepted table ok).table in
+    let fit = words_fit (table_of table) (accepted table ok).table in
     let part = length-take-le c.variable_count-v.result c.args.words.now (omega arith) in
-    let room : level_total (table_of table) ≤ length (take c.variable_count-v.result c.args.words.now) = omega (arith, fit, part, c.variable_count-v.ensures) in
-    subst (λ (b : List ℕ). level_total (table_of b) ≤ length (take c.variable_count-v.result c.args.words.now)) (sym (c.new-net.ensures ∙ c.new-accepted.ensures)) room
+    let room : room_total (table_of table) ≤ length (take c.variable_count-v.result c.args.words.now) = omega (arith, fit, part, c.variable_count-v.ensures) in
+    subst (λ (b : List ℕ). room_total (table_of b) ≤ length (take c.variable_count-v.result c.args.words.now)) (sym (c.new-net.ensures ∙ c.new-accepted.ensures)) room
 
 pub returns : goal.returns
 returns c =

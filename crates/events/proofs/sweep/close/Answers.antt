@@ -1,6 +1,6 @@
 -- `close` meets its contract: sweeps until one fails or adds nothing. It ends because the words only grow.
 use Prim.Native.Nat.{ℕ, ◌+◌, ◌*◌, ◌^◌, ◌<◌}
-use mathlib.Core.Path.{◌≡◌, ap, subst}
+use mathlib.Core.Path.{◌≡◌, refl, ap, subst, ◌∙◌}
 use native.Mathlib.Omega.{arith}
 use borrow.Author.Tests.{not-true, not-false}
 use lib.ListN.{length}
@@ -21,22 +21,32 @@ use Rattle.events.proofs.sweep.close.Goals as goal
 founded : {T : Table} {M N : Memory} → Founded T M → Reached T M N → Founded T N
 founded f r = (f.0, r.sound f.0 f.1)
 
-pub loop-looks-init : goal.loop-looks-init
-loop-looks-init c =
+pub loop-r-init : goal.loop-r-init
+loop-r-init c =
     let net = c.args.net.now in
     let T = table_in net in (
       reached_first T _ c.requires.sized,
-      first_watched T (wellformed net) _ _ net.setting.reads c.args.changed _ c.first_looks-looks.ensures c.requires.rest_but,
+      first_watched T (wellformed net) _ _ net.setting.reads _ c.args.changed c.first_looks.ensures.first c.requires.rest_but,
+      refl,
     )
 
 pub returns-then-r-clause-closed : goal.returns-then-r-clause-closed
-returns-then-r-clause-closed c = closed_failing (table_in c.args.net.now) c.loop-looks.invariant.0 c.sweep_once-r.ensures.advance c.if-r.true
+returns-then-r-clause-closed c = closed_failing (table_in c.args.net.now) c.loop-r.invariant.0 c.sweep_once-r.ensures.advance c.if-r.true
+
+pub returns-then-r-clause-looks_len_unchanged : goal.returns-then-r-clause-looks_len_unchanged
+returns-then-r-clause-looks_len_unchanged c = c.sweep_once-r.ensures.size ∙ c.loop-r.invariant.2 ∙ c.first_looks.ensures.looks_len_unchanged
+
+pub sweep_once-r-requires-clause-room : goal.sweep_once-r-requires-clause-room
+sweep_once-r-requires-clause-room c = omega (arith, c.requires.room, c.first_looks.ensures.looks_len_unchanged, c.loop-r.invariant.2)
+
+pub sweep_once-r-requires-clause-sized : goal.sweep_once-r-requires-clause-sized
+sweep_once-r-requires-clause-sized c = c.loop-r.invariant.0.sized
 
 pub returns-then-not-r : goal.returns-then-not-r
 returns-then-not-r c =
     let T = table_in c.args.net.now in
     let wf = wellformed c.args.net.now in
-    let l = c.loop-looks in
+    let l = c.loop-r in
     let v = c.sweep_once-r in
     let w = v.ensures in
     let f = c.if-r.false in
@@ -49,12 +59,13 @@ returns-then-not-r c =
           (advance_so T {Q = Rest T} (λ z. all_rest T wf (memory l.rows l.words) z (subst (λ (M : Memory). RestBut T 0 (knowledge T M)) same rests)) w.advance)
           f calm c.settled_steps.ensures;
       resting = λ e. rests;
+      looks_len_unchanged = w.size ∙ l.invariant.2 ∙ c.first_looks.ensures.looks_len_unchanged;
     }
 
-pub loop-looks-smaller : goal.loop-looks-smaller
-loop-looks-smaller c =
+pub loop-r-smaller : goal.loop-r-smaller
+loop-r-smaller c =
     let a = c.args in
-    let l = c.loop-looks in
+    let l = c.loop-r in
     let v = c.sweep_once-r in
     let did = c.sweep_once-r.ensures.advance in
     let less : total (memory l.rows l.words) < total (memory v.new.rows v.new.words) = did.more (not-false v.result.changed c.if-not-r.false) in
@@ -64,10 +75,11 @@ loop-looks-smaller c =
     let fixed = ap (λ (k : ℕ). k * 2 ^ 32) size in
     omega (arith, less, most, fixed)
 
-pub loop-looks-preserved : goal.loop-looks-preserved
-loop-looks-preserved c =
+pub loop-r-preserved : goal.loop-r-preserved
+loop-r-preserved c =
     let w = c.sweep_once-r.ensures in
-    let l = c.loop-looks in (
+    let l = c.loop-r in (
       reached_more (table_in c.args.net.now) l.invariant.0 w.advance,
       w.watched c.if-r.false (founded c.requires.founded l.invariant.0) l.invariant.1,
+      w.size ∙ l.invariant.2,
     )

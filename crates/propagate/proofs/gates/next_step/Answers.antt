@@ -7,10 +7,11 @@ use Rattle.rows.specs.Rules.{ahead_at, masked, new_of}
 use Rattle.rows.specs.Words.{row_at, step_place}
 use Rattle.propagate.specs.Memory.{Memory, memory, node_place, add_row, node_row, go_back_more}
 use Rattle.propagate.proofs.Chain.{added, after}
+use Rattle.propagate.proofs.MarkedLaws.{calm_then, rows_then}
 use Rattle.propagate.proofs.gates.next_step.Goals as goal
 
-pub returns : goal.returns
-returns c =
+pub returns-clause-value : goal.returns-clause-value
+returns-clause-value c =
     let a = c.args in
     let T = a.graph.now.targets in
     let n = a.graph.now.states in
@@ -26,5 +27,11 @@ returns c =
     c.new_of-more.ensures ∙ (λ j. new_of ((c.mask.ensures ∙ ap (masked a.look) c.node_row.ensures) j) (up j)) in
     λ w. after (λ (M : Memory). go_back_more T n a.every (new_of (masked a.look (node_row M a.i)) N) end (add_row (node_place a.a)) M)
     (added rows (node_place a.i) up c.add_node-first.ensures.value c.add_node-first.ensures.rows_after w)
-    (c.next_back.ensures w ∙ (λ j. go_back_more T n a.every (more j) (below j) (add_row (node_place a.a)) (memory last w)))
+    (c.next_back.ensures.value w ∙ (λ j. go_back_more T n a.every (more j) (below j) (add_row (node_place a.a)) (memory last w)))
     c.both.ensures
+
+pub returns-clause-marked : goal.returns-clause-marked
+returns-clause-marked c = rows_then c.add_node-first.ensures.marked c.next_back.ensures.marked
+
+pub returns-clause-calm : goal.returns-clause-calm
+returns-clause-calm c = calm_then c.add_node-first.result c.next_back.result c.both.result c.both.ensures c.add_node-first.ensures.calm c.next_back.ensures.calm

@@ -18,13 +18,13 @@ loop-t-preserved c =
     let l = c.loop-t in
     let t = c.in-Some.t in
     let next = c.in-Some.ensures.steps in
-    let more = get_or a.readers.now t 0 in
+    let more = get_or a.readers.now.of t 0 in
     let all = bit_or l.all more in
     let stays : (s : ℕ) → member l.all s ≡ true → member all s ≡ true = λ s m. (or-true l.all more s).1 (inl m) in (
       subst (Left a.set) (sym next.3) (left_next a.set l.t-iterator.left t l.invariant.0 next.1 next.2),
       λ u m. stays u (l.invariant.1 u m),
-      subst (λ (w : ℕ). Gone a.set w (Spread a.readers.now all)) (sym next.3)
-          (gone_next a.set l.t-iterator.left t (Spread a.readers.now l.all) (Spread a.readers.now all)
+      subst (λ (w : ℕ). Gone a.set w (Spread a.readers.now.of all)) (sym next.3)
+          (gone_next a.set l.t-iterator.left t (Spread a.readers.now.of l.all) (Spread a.readers.now.of all)
           (λ u p s m. stays s (p s m)) l.invariant.2 (λ s m. (or-true l.all more s).1 (inr m))),
     )
 

@@ -17,4 +17,4 @@ abbrev pub invariant-loop-t : goal.invariant-loop-t
 invariant-loop-t l =
     Left l.set l.t-iterator.left
     × ((t : ℕ) → member l.set t ≡ true → member l.all t ≡ true)
-    × Gone l.set l.t-iterator.left (Spread l.readers l.all)
+    × Gone l.set l.t-iterator.left (Spread l.readers.of l.all)

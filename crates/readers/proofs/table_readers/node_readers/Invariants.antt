@@ -8,7 +8,7 @@ use Rattle.sets.specs.Member.{member}
 use Rattle.table.specs.Table.{table_of, node_at}
 use Rattle.ctl.specs.Rule.{Operator, operator_of}
 use Rattle.readers.specs.Reads.{is_child, reads_steps}
-use Rattle.readers.specs.Readers.{Raised}
+use Rattle.readers.specs.Marked.{Raised}
 use Rattle.readers.proofs.table_readers.node_readers.Given as goal
 
 -- node i stands where its children are read, and the steps

@@ -4,7 +4,7 @@ use mathlib.Core.Path.{◌≡◌}
 use mathlib.Core.Bool.{true}
 use lib.ListN.{get_or}
 use Rattle.sets.specs.Member.{member}
-use Rattle.readers.specs.Readers.{Raised}
+use Rattle.readers.specs.Marked.{Raised}
 use Rattle.readers.proofs.table_readers.state_readers.Given as goal
 
 abbrev pub invariant-loop-s : goal.invariant-loop-s

@@ -5,6 +5,6 @@ use Rattle.walk.proofs.reach.reach.Goals as goal
 pub returns : goal.returns
 returns c =
     record {
-      sized = c.close-closed.ensures.closed.sized;
-      comes = λ P b fine between stores. c.assess.ensures _ P b fine (c.close-closed.ensures.closed.closes (step_literals P) between) c.close-closed.ensures.resting stores;
+      sized = c.close_parts-closed.ensures.sized;
+      comes = λ P b fine between stores. c.assess.ensures _ P b fine (c.close_parts-closed.ensures.closes (step_literals P) between) c.close_parts-closed.ensures.resting stores;
     }

@@ -15,12 +15,12 @@ use Rattle.walk.proofs.start.close_nothing.Goals as goal
 nothing_between : (T : Table) (rows words : List ℕ) (k : ℕ) → rows ≡ replicate 130 0 → words ≡ replicate k 0 → Between T [] (memory rows words)
 nothing_between T rows words k no_step no_level = rw (no_step, no_level) (none_between T k)
 
-pub close-requires-clause-founded : goal.close-requires-clause-founded
-close-requires-clause-founded c =
+pub close_parts-requires-clause-founded : goal.close_parts-requires-clause-founded
+close_parts-requires-clause-founded c =
     let zeroed : c.fill.new.self ≡ replicate (length c.args.words.now) 0 = search rules in
     ([], (nothing_between (table_in c.args.net.now) _ _ _ c.requires.rows_value zeroed).below)
 
 pub returns-clause-closes : goal.returns-clause-closes
 returns-clause-closes c =
     let zeroed : c.fill.new.self ≡ replicate (length c.args.words.now) 0 = search rules in
-    c.close.ensures.closed.closes [] (nothing_between (table_in c.args.net.now) _ _ _ c.requires.rows_value zeroed)
+    c.close_parts.ensures.closes [] (nothing_between (table_in c.args.net.now) _ _ _ c.requires.rows_value zeroed)

@@ -32,7 +32,7 @@ use Rattle.walk.proofs.TryLaws.{try_fine, try_within, kept_cut, kept_passed, kep
 use Rattle.walk.proofs.tries.+both_ways_one_way.Goals as goal
 use Rattle.walk.proofs.tries.+both_ways_one_way.Goals.{both_ways-then-fresh, both_ways-else-fresh, one_way-then-fresh, one_way-else-fresh}
 
-module _ {levels from : ℕ} {words mid : List ℕ} (keeps : Keeps levels words mid from) {T : Table} (all : levels ≡ level_total T)
+module _ {levels room from : ℕ} {words mid : List ℕ} (keeps : Keeps levels room words mid from) {T : Table} (all : levels ≡ level_total T)
     {rows : List ℕ} {j : ℕ} {best : Held} {find : List ℕ} {P : List (Literal ℕ)} {m : Marks} {b : Best} (g : GoesOn T j (memory rows words) best find P m b) where
   -- where the kept try stands: at the same rows, with the words of the levels behind these
   kept_stands : GoesOn T j (memory rows (take (length mid - from) (drop from mid))) best find P m b
@@ -148,7 +148,7 @@ one_way-both_ways-requires t c =
     let goes = try_goes _ wf c.args.count c.args.j c.args.rows.now stand.0 stand.1 stand.3.stands c.args.sign
     c.in-Some.more (sym c.in-Some.is ∙ c.step.ensures) stand.2 _ _ _ _ (chosen_comes wf c.args.count (search rules) stand.3 c.args.sign c.with_step-next.ensures c.reach.ensures)
     c.in-Unsettled.k c.in-Unsettled.is c.requires.made_le_cap in
-    (omega (arith, goes.0, c.decreases), (c.reach.ensures.sized.words_size, (goes.1, (goes.2, goes.3))))
+    (omega (arith, goes.0, c.decreases), (omega (arith, c.reach.auto.words, c.requires.words_room), (goes.1, (goes.2, goes.3))))
 
 pub one_way-returns-in-Ended : goal.one_way-returns-in-Ended
 one_way-returns-in-Ended t c P m b g =
