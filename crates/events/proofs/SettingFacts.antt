@@ -1,12 +1,15 @@
 -- What a net says of its table: it is well formed, with few nodes, and where the words of the states to look at lie.
-use Prim.Native.Nat.{ℕ, ◌<◌}
+use Prim.Native.Nat.{ℕ, suc, ◌+◌, ◌<◌}
+use native.Mathlib.Numerals.{add-one}
 use native.Mathlib.Omega.{arith}
-use mathlib.Core.Path.{◌≡◌, ◌∙◌}
+use mathlib.Core.Path.{◌≡◌, ap, ◌∙◌}
 use lib.ListN.{length, get_or}
+use Rattle.table.specs.Table.{node_at}
 use Rattle.table.specs.Facts.{Wellformed}
 use Rattle.table.proofs.Facts.{accepted}
-use Rattle.readers.specs.Readers.{first_word, word_total}
-use Rattle.readers.proofs.Places.{first_last}
+use Rattle.ctl.specs.Rule.{operator_of}
+use Rattle.readers.specs.Readers.{row_count, first_word, word_total}
+use Rattle.readers.proofs.Places.{first_next, first_last}
 use Rattle.events.specs.declared.net.Net.{Net}
 use Rattle.events.specs.NetTable.{table_in}
 
@@ -25,3 +28,8 @@ module _ (net : Net) where
   -- where those of a node begin
   pub words_begin : (i : ℕ) → i < length (table_in net).nodes → get_or net.graph.readers.first i 0 ≡ first_word (table_in net) i
   words_begin i h = net.setting.reads.firsts.at i (omega (arith, low i h))
+
+  -- and where they end
+  pub words_end_at : (i : ℕ) → i < length (table_in net).nodes
+      → get_or net.graph.readers.first (i + 1) 0 ≡ first_word (table_in net) i + row_count (length (table_in net).states) (operator_of (node_at (table_in net) i))
+  words_end_at i h = ap (λ (k : ℕ). get_or net.graph.readers.first k 0) (add-one i) ∙ net.setting.reads.firsts.at (suc i) (omega (arith, low i h)) ∙ first_next (table_in net) i h

@@ -1,5 +1,5 @@
 // All nodes of a table, one after the other.
-ghost use Rattle.std.specs.Prelude.{◌≤◌, ◌<◌, length};
+ghost use Rattle.std.specs.Prelude.{◌≡◌, true, ℕ, ◌≤◌, ◌<◌, length, get_or};
 ghost use Rattle.readers.specs.Readers.{word_total};
 ghost use Rattle.propagate.specs.Memory.{memory};
 ghost use Rattle.closure.specs.Knowledge.{Sized};
@@ -15,7 +15,20 @@ use propagate::Fixpoint;
 use rows::{Report, both};
 use table::Operator;
 
-// A node with all its cells.
+// Whether the words from one place on up to another have no state.
+fn are_empty(looks: &[u32], first: usize, end: usize) -> bool
+    requires { end ≤ length looks.now }
+    ensures { result ≡ true → (k : ℕ) → first ≤ k → k < end → get_or looks.now k 0 ≡ 0 }
+{
+    for k in first..end {
+        if looks[k] != 0 {
+            return false;
+        }
+    }
+    true
+}
+
+// A node with all its cells. It is read only where one of them is to be looked at.
 fn node_visit(
     net: &Net<'_>,
     rows: &mut [u32; 130],
@@ -29,13 +42,17 @@ fn node_visit(
     requires room { word_total (table_in net.now) ≤ length looks.old }
     ensures { Looked (table_in net.now) (CellsOf (table_in net.now) i) Always looks.old looks.new (memory rows.old words.old) (memory rows.new words.new) result }
 {
+    let word = net.graph.readers.first[i];
+    let end = net.graph.readers.first[i + 1];
+    if are_empty(looks, word, end) {
+        return Report::default();
+    }
     let operator = Operator::from(net.table.node(i));
     let Operator::Fixpoint(family, q, a, b) = operator else {
         return plain_visit(net, rows, looks, i, operator);
     };
     let every = is_every(q);
     let base = net.bases.at[i];
-    let word = net.graph.readers.first[i];
     let x = Fixpoint {
         family,
         node: i,
