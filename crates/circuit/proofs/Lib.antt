@@ -17,3 +17,4 @@ pub mod Value
 pub mod GatesRight
 pub mod Marked
 pub mod Models
+pub mod Numbered

@@ -19,19 +19,16 @@ use Rattle.ctl.proofs.Meaning.{label_mean}
 use Rattle.circuit.specs.Logic.{pos, neg, Makes, Satisfies}
 use Rattle.circuit.specs.Variables.{Var, step, kept, value, variables}
 use Rattle.circuit.specs.Gates.{gates}
-use Rattle.circuit.specs.Clauses.{initials, clauses}
+use Rattle.circuit.specs.Clauses.{initials, gates_clauses, clauses}
+use Rattle.circuit.specs.Exact.{Agrees, ModelsAreTheRepairs}
 use Rattle.circuit.proofs.Lists.{each_more, each_one, each_concat, each_map}
 use Rattle.circuit.proofs.Gate.{Holds, gate_value_lem, value_reads}
 use Rattle.circuit.proofs.Order.{variable_induction}
-use Rattle.circuit.proofs.Clauses.{clauses_of, gates_clauses, step_demand, start_demand, root_demand, in_initials, each_clause, each_demand, gate_in, gates_in, step_in, start_in, root_in}
+use Rattle.circuit.proofs.Clauses.{clauses_of, step_demand, start_demand, root_demand, in_initials, each_clause, each_demand, gate_in, gates_in, step_in, start_in, root_in}
 use Rattle.circuit.proofs.Covered.{clause_variables}
 use Rattle.circuit.proofs.Evaluate.{assignment}
 use Rattle.circuit.proofs.GatesRight.{value_right, gates_right}
 use Rattle.circuit.proofs.Marked.{kept_value_lem, value_marked}
-
--- α says of each step whether the list keeps it
-abbrev pub Agrees : Table → (Var → Bool) → List ℕ → Type 0
-Agrees T α list = (j : ℕ) → j < length T.steps → α (step j) ≡ eqb (get_or list j 0) 1
 
 -- ---- the gates
 
@@ -147,3 +144,11 @@ model_is_repair T wf list form α agrees sat = evaluation_repair T wf list form 
 -- Each repair has an assignment that agrees with it and makes the clauses of the table true.
 pub repair_is_model : (T : Table) → Wellformed T → (list : List ℕ) → Repair T list → (α : Var → Bool) × Agrees T α list × Satisfies α (clauses T)
 repair_is_model T wf list r = (assignment T list, evaluation_agrees T list, repair_evaluation T wf list r)
+
+pub models_are_the_repairs : ModelsAreTheRepairs
+models_are_the_repairs T wf = record {
+  extends = gates_exist T wf;
+  unique = gates_unique T wf;
+  model_is_repair = model_is_repair T wf;
+  repair_is_model = repair_is_model T wf;
+}

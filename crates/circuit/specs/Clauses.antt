@@ -23,5 +23,9 @@ module _ (T : Table) where
       ++ (map (λ s. pos (kept s)) initials ∷ [])
       ++ map (λ s. neg (kept s) ∷ pos (value T (root_index T) s) ∷ []) initials
 
+  -- the clauses of the gates, in their order
+  abbrev pub gates_clauses : List Clause
+  gates_clauses = concat (map (λ d. gate_clauses d.output d.gate) (gates T))
+
   unfoldable pub clauses : List Clause
-  clauses = concat (map (λ d. gate_clauses d.output d.gate) (gates T)) ++ demands
+  clauses = gates_clauses ++ demands

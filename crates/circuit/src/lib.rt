@@ -1,6 +1,8 @@
 // The circuit of a table: its variables, gates and clauses, and why its models are the repairs.
 #![tactic(auto)]
 
+mod laws;
 mod variables;
 
+pub use laws::{models_are_the_repairs, variables_are_the_numbers};
 pub use variables::variable_count;

@@ -1,9 +1,9 @@
-// The number of variables of a table's circuit, from the packed table.
+// The number of variables of a table's circuit.
 ghost use Rattle.std.specs.Prelude.{◌≡◌, ◌≤◌};
 ghost use Rattle.table.specs.Table.{table_of};
-ghost use Rattle.circuit.specs.Variables.{cost_of, own_count, variable_formula};
+ghost use Rattle.circuit.specs.Variables.{cost_of, own_count, variable_count, variable_formula};
 
-use table::{Family, Node, Operator, counts_of, record_at, sections_of};
+use table::{Accepted, Family, Operator};
 
 // How many variables a level of a fixed point has at each state.
 fn own_count(family: Family) -> usize
@@ -27,18 +27,16 @@ fn node_cost(operator: Operator, n: usize, e: usize) -> usize
     }
 }
 
-// V: how many variables the circuit of a table has. Counts in range or not, nothing wraps.
-pub fn variable_count(table: &[u8]) -> usize
-    ensures { result ≡ variable_formula (table_of table.now) }
+/// V: how many variables the circuit of a table has.
+pub fn variable_count(table: &Accepted<'_>) -> usize
+    ensures formula { result ≡ variable_formula (table_of table.now.bytes.now) }
+    ensures counted { result ≡ variable_count (table_of table.now.bytes.now) }
 {
-    let c = counts_of(table);
-    let n = c.states;
-    let e = c.steps;
-    let nodes = sections_of(table).nodes;
+    let n = table.state_count();
+    let e = table.step_count();
     let mut sum = e + n;
-    for i in 0..c.nodes {
-        let x: Node = record_at(nodes, i);
-        sum += node_cost(Operator::from(x), n, e);
+    for i in 0..table.node_count() {
+        sum += node_cost(Operator::from(table.node(i)), n, e);
     }
     sum
 }

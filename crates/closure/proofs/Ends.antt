@@ -1,8 +1,8 @@
 -- The ends of the steps out of a state, as a set.
 use Prim.Native.Nat.{ℕ, ◌^◌, ◌≤◌, ◌<◌}
 use native.Mathlib.Omega.{arith}
-use mathlib.Core.Path.{◌≡◌, refl, sym, ◌∙◌}
-use mathlib.Core.Bool.{Bool, true, true≢false}
+use mathlib.Core.Path.{◌≡◌, refl, sym}
+use mathlib.Core.Bool.{Bool, true}
 use mathlib.Core.Logic.{◌↔◌}
 use mathlib.Core.List.{List, Memᴰ}
 use borrow.Author.Tests.{eqb-true, eq-eqb}
@@ -52,12 +52,7 @@ target_small xs s = set_of-lt 32 _
 -- two steps with the same ends are the same step
 pub same_ends : (T : Table) → Wellformed T → (i j : ℕ) → i < length T.steps → j < length T.steps
     → (step_at T i).from ≡ (step_at T j).from → (step_at T i).to ≡ (step_at T j).to → i ≡ j
-same_ends T wf i j hi hj f t = neither_less i j (λ l. differ i j l hj f t) (λ l. differ j i l hi (sym f) (sym t))
-  where
-    -- of two steps, the earlier and the later differ
-    differ : (i j : ℕ) → i < j → j < length T.steps → (step_at T i).from ≡ (step_at T j).from → (step_at T i).to ≡ (step_at T j).to → ⊥
-    differ i j l h f t = true≢false (sym (parts_and (eqb (step_at T i).from (step_at T j).from) (eqb (step_at T i).to (step_at T j).to)
-        (eq-eqb (step_at T i).from (step_at T j).from f) (eq-eqb (step_at T i).to (step_at T j).to t)) ∙ wf.no_repeat i j l h)
+same_ends T wf i j hi hj f t = neither_less i j (λ l. wf.no_repeat i j l hj (f, t)) (λ l. wf.no_repeat j i l hi (sym f, sym t))
 
 -- the end of a step out of s is one of the ends
 pub out_target : (T : Table) → Wellformed T → (s j : ℕ) → Memᴰ j (steps_out T s) → member (target_set T.steps s) (step_at T j).to ≡ true

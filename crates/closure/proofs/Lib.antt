@@ -61,3 +61,4 @@ pub mod LevelAdvance
 pub mod NodeAdvance
 pub mod Agree
 pub mod Masked
+pub mod Exact

@@ -10,3 +10,4 @@ pub mod Settled
 pub mod Closes
 pub mod MemoryRules
 pub mod Bases
+pub mod Exact

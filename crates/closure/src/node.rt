@@ -10,7 +10,7 @@ ghost use Rattle.propagate.specs.Marked.{RowsMarked};
 
 use propagate::{Graph, add_node, next_step, pair_step, same_step};
 use rows::{Report, constant_row};
-use table::{Operator, Quantifier};
+use table::{Accepted, Operator, Quantifier};
 
 // A is taken as it is, E as its dual.
 pub fn is_every(q: Quantifier) -> bool
@@ -27,9 +27,9 @@ fn constant_set(n: usize, holds: bool) -> u32
     if holds { sets::below(n) } else { 0 }
 }
 
-// Of a table only the section of its states is read, so any bytes do. A fixed point has its levels in place of these.
+// Of the table only the section of its states is read. A fixed point has its levels in place of these.
 pub fn node_step(
-    table: &[u8],
+    table: &Accepted<'_>,
     graph: &Graph,
     rows: &mut [u32; 130],
     looks: &mut [u32],
@@ -40,7 +40,7 @@ pub fn node_step(
     requires i_below { i < 32 }
     requires children_below { (c : ℕ) → is_child operator c ≡ true → c < 32 }
     requires room { words_end graph.now.readers ≤ length looks.old }
-    ensures value { (w : List ℕ) → stepped rows.new w result ≡ node_step table.now graph.now.targets graph.now.states look i operator (memory rows.old w) }
+    ensures value { (w : List ℕ) → stepped rows.new w result ≡ node_step table.now.bytes.now graph.now.targets graph.now.states look i operator (memory rows.old w) }
     ensures marked { RowsMarked graph.now.readers looks.old looks.new rows.old rows.new }
     ensures calm { result.changed ≡ false → looks.new ≡ looks.old }
 {
@@ -51,7 +51,7 @@ pub fn node_step(
             add_node(graph, rows, looks, i, constant_row(n, set))
         }
         Operator::Atom(p) => {
-            let set = table::labelled_states(table::sections_of(table).states, n, p);
+            let set = table::labelled_states(table.states, n, p);
             add_node(graph, rows, looks, i, constant_row(n, set))
         }
         Operator::Negation(a) => same_step(graph, rows, looks, i, false, a),

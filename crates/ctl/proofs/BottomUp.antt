@@ -3,16 +3,13 @@ use Prim.Native.Nat.{ℕ, zero, suc, ◌+◌, ◌<◌}
 use native.Mathlib.Nat.{le_of_suc-le-suc, not-suc-le-zero}
 use native.Mathlib.Omega.{arith}
 use mathlib.Core.Path.{◌≡◌, sym, ap, ◌∙◌}
-use mathlib.Core.Bool.{true, ◌&&◌, and-eq-true_iff}
 use mathlib.Core.List.{List, [], ◌∷◌, ◌++◌}
-use borrow.Author.Tests.{ltb-true}
-use lib.Dec.{ltb, eqb}
 use lib.ListN.{length, get_or, take, length-append}
 use lib.Seq.{take-length, take-take, take-append_seam, get_or-append_seam, get_or-take}
 use Rattle.table.specs.declared.record.Node.{Node}
 use Rattle.table.specs.Table.{Table, zero_node, node_at}
-use Rattle.table.specs.Accept.{shape_of, fields_fit}
-use Rattle.table.specs.Facts.{Wellformed}
+use Rattle.table.specs.Accept.{shape_of}
+use Rattle.table.specs.Facts.{Wellformed, FieldsFit}
 use Rattle.ctl.specs.Rule.{Operator, constant, atom, negation, conjunction, disjunction, next, fixpoint, operator_of, bottom_up}
 
 -- ---- the values, one behind the other
@@ -101,30 +98,24 @@ of-below i (disjunction a b) h all = (all a h.0, all b h.1)
 of-below i (next q a) h all = all a h
 of-below i (fixpoint f q a b) h all = (all a h.0, all b h.1)
 
-unary_below : (i a b : ℕ) → ltb a i && eqb b 0 ≡ true → a < i
-unary_below i a b e = ltb-true a i ((and-eq-true_iff (ltb a i) (eqb b 0)).0 e).0
-
-binary_below : (i a b : ℕ) → ltb a i && ltb b i ≡ true → (a < i) × (b < i)
-binary_below i a b e = let r = (and-eq-true_iff (ltb a i) (ltb b i)).0 e in (ltb-true a i r.0, ltb-true b i r.1)
-
 -- fields that fit give children below i: kinds 0 to 15, and every later one
-fields_below : (p i kind a b : ℕ) → fields_fit (shape_of kind) p i a b ≡ true → Below i (operator_of (record { kind = kind; a = a; b = b }))
+fields_below : (p i kind a b : ℕ) → FieldsFit (shape_of kind) p i a b → Below i (operator_of (record { kind = kind; a = a; b = b }))
 fields_below p i zero a b e = tt
 fields_below p i (suc zero) a b e = tt
 fields_below p i (suc (suc zero)) a b e = tt
-fields_below p i (suc (suc (suc zero))) a b e = unary_below i a b e
-fields_below p i (suc (suc (suc (suc zero)))) a b e = binary_below i a b e
-fields_below p i (suc (suc (suc (suc (suc zero))))) a b e = binary_below i a b e
-fields_below p i (suc (suc (suc (suc (suc (suc zero)))))) a b e = unary_below i a b e
-fields_below p i (suc (suc (suc (suc (suc (suc (suc zero))))))) a b e = unary_below i a b e
-fields_below p i (suc (suc (suc (suc (suc (suc (suc (suc zero)))))))) a b e = binary_below i a b e
-fields_below p i (suc (suc (suc (suc (suc (suc (suc (suc (suc zero))))))))) a b e = binary_below i a b e
-fields_below p i (suc (suc (suc (suc (suc (suc (suc (suc (suc (suc zero)))))))))) a b e = binary_below i a b e
-fields_below p i (suc (suc (suc (suc (suc (suc (suc (suc (suc (suc (suc zero))))))))))) a b e = binary_below i a b e
-fields_below p i (suc (suc (suc (suc (suc (suc (suc (suc (suc (suc (suc (suc zero)))))))))))) a b e = let h = unary_below i a b e in (h, h)
-fields_below p i (suc (suc (suc (suc (suc (suc (suc (suc (suc (suc (suc (suc (suc zero))))))))))))) a b e = let h = unary_below i a b e in (h, h)
-fields_below p i (suc (suc (suc (suc (suc (suc (suc (suc (suc (suc (suc (suc (suc (suc zero)))))))))))))) a b e = let h = unary_below i a b e in (h, h)
-fields_below p i (suc (suc (suc (suc (suc (suc (suc (suc (suc (suc (suc (suc (suc (suc (suc zero))))))))))))))) a b e = let h = unary_below i a b e in (h, h)
+fields_below p i (suc (suc (suc zero))) a b e = e.0
+fields_below p i (suc (suc (suc (suc zero)))) a b e = e
+fields_below p i (suc (suc (suc (suc (suc zero))))) a b e = e
+fields_below p i (suc (suc (suc (suc (suc (suc zero)))))) a b e = e.0
+fields_below p i (suc (suc (suc (suc (suc (suc (suc zero))))))) a b e = e.0
+fields_below p i (suc (suc (suc (suc (suc (suc (suc (suc zero)))))))) a b e = e
+fields_below p i (suc (suc (suc (suc (suc (suc (suc (suc (suc zero))))))))) a b e = e
+fields_below p i (suc (suc (suc (suc (suc (suc (suc (suc (suc (suc zero)))))))))) a b e = e
+fields_below p i (suc (suc (suc (suc (suc (suc (suc (suc (suc (suc (suc zero))))))))))) a b e = e
+fields_below p i (suc (suc (suc (suc (suc (suc (suc (suc (suc (suc (suc (suc zero)))))))))))) a b e = (e.0, e.0)
+fields_below p i (suc (suc (suc (suc (suc (suc (suc (suc (suc (suc (suc (suc (suc zero))))))))))))) a b e = (e.0, e.0)
+fields_below p i (suc (suc (suc (suc (suc (suc (suc (suc (suc (suc (suc (suc (suc (suc zero)))))))))))))) a b e = (e.0, e.0)
+fields_below p i (suc (suc (suc (suc (suc (suc (suc (suc (suc (suc (suc (suc (suc (suc (suc zero))))))))))))))) a b e = (e.0, e.0)
 fields_below p i (suc (suc (suc (suc (suc (suc (suc (suc (suc (suc (suc (suc (suc (suc (suc (suc kind)))))))))))))))) a b e = tt
 
 -- the children of a node of a table have lower numbers than it

@@ -9,24 +9,28 @@ use Rattle.table.specs.Table.{Table}
 use Rattle.table.specs.Facts.{Wellformed}
 use Rattle.ctl.specs.Meaning.{Holds}
 use Rattle.ctl.specs.Rule.{Quantifier, every, some, formula}
-use Rattle.ctl.specs.Kept.{Next, Total}
+use Rattle.ctl.specs.Kept.{Next, Labelled, Total}
 use Rattle.ctl.specs.Levels.{has, levels}
 use Rattle.ctl.specs.Labels.{targets, label}
-use Rattle.ctl.specs.Duals.{SpecialCases, HoldsAt, Duals}
+use Rattle.ctl.specs.Duals.{SpecialCases, AreSpecialCases, HoldsAt, Duals}
 use Rattle.ctl.proofs.Joined.{other}
-use Rattle.ctl.proofs.Paths.{OnPaths, Not}
-use Rattle.ctl.proofs.Fixpoint.{Along, apart, answers}
+use Rattle.ctl.specs.OnPaths.{OnPaths, Along}
+use Rattle.ctl.proofs.Paths.{Not}
+use Rattle.ctl.proofs.Fixpoint.{apart, answers}
 use Rattle.ctl.proofs.Targets.{targets_sound, targets_complete, next_inside}
 use Rattle.ctl.proofs.Meaning.{label_set, label_mean}
 
-pub special_cases : SpecialCases
+pub special_cases : (next labelled : ℕ → ℕ → Type 0) → SpecialCases next labelled
 unfolding Holds
-special_cases = record {
-  af_is = λ a next labelled s. (λ all π path. let r = all π path in (r.0, r.1, λ j h. tt), λ all π path. let r = all π path in (r.0, r.1));
-  ef_is = λ a next labelled s. (λ p. (p.0, p.1, (p.2.0, p.2.1, λ j h. tt)), λ p. (p.0, p.1, (p.2.0, p.2.1)));
-  ag_is = λ a next labelled s. (λ all π path k none. all π path k, λ all π path k. all π path k (λ j h x. x));
-  eg_is = λ a next labelled s. (λ p. (p.0, p.1, λ k none. p.2 k), λ p. (p.0, p.1, λ k. p.2 k (λ j h x. x)));
+special_cases next labelled = record {
+  af_is = λ a s. (λ all π path. let r = all π path in (r.0, r.1, λ j h. tt), λ all π path. let r = all π path in (r.0, r.1));
+  ef_is = λ a s. (λ p. (p.0, p.1, (p.2.0, p.2.1, λ j h. tt)), λ p. (p.0, p.1, (p.2.0, p.2.1)));
+  ag_is = λ a s. (λ all π path k none. all π path k, λ all π path k. all π path k (λ j h x. x));
+  eg_is = λ a s. (λ p. (p.0, p.1, λ k none. p.2 k), λ p. (p.0, p.1, λ k. p.2 k (λ j h x. x)));
 }
+
+pub are_special_cases : AreSpecialCases
+are_special_cases T list = special_cases (Next T list) (Labelled T)
 
 module _ (T : Table) (wf : Wellformed T) (list : List ℕ) (total : Total T list) (a b : ℕ) (ha : a < length T.nodes) (hb : b < length T.nodes) where
   -- the mark in level n says which of the two holds

@@ -10,20 +10,14 @@ use lib.ListN.{length}
 use Rattle.table.specs.declared.operator.Family.{Family}
 use Rattle.table.specs.declared.operator.Family.TheVariants.{Release, Until, Eventually, Always}
 use Rattle.table.specs.Accept.{all, any}
-use Rattle.ctl.specs.Meaning.{Fullpath, Released, UntilAlong, EventuallyAlong, AlwaysAlong}
+use Rattle.ctl.specs.Meaning.{Fullpath}
 use Rattle.ctl.specs.Rule.{Quantifier, every, some}
 use Rattle.ctl.specs.Levels.{has, tabulate, iterate, next_in, joined, level, levels}
+use Rattle.ctl.specs.OnPaths.{OnPaths, Along}
 use Rattle.ctl.proofs.Tabulate.{length_tabulate, get_d_tabulate}
 use Rattle.ctl.proofs.Stable.{level_mark}
 use Rattle.ctl.proofs.Joined.{other, dual, joined_dual}
-use Rattle.ctl.proofs.Paths.{OnPaths, Not, release_holds, release_fails}
-
--- what a family says along a path
-abbrev pub Along : Family → (ℕ → Type 0) → (ℕ → Type 0) → (ℕ → ℕ) → Type 0
-Along Release a b π = Released a b π
-Along Until a b π = UntilAlong a b π
-Along Eventually a b π = EventuallyAlong b π
-Along Always a b π = AlwaysAlong b π
+use Rattle.ctl.proofs.Paths.{Not, release_holds, release_fails}
 
 -- ---- a family and its dual
 

@@ -15,3 +15,4 @@ pub mod SameMeaning
 pub mod Strike
 pub mod Repair
 pub mod Mistakes
+pub mod Refused

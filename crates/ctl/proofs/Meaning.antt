@@ -17,12 +17,13 @@ use Rattle.ctl.specs.Rule.{Quantifier, every, some, Operator, constant, atom, ne
 use Rattle.ctl.specs.Kept.{Next, Kept, Total, Labelled, NodeHolds}
 use Rattle.ctl.specs.Levels.{has, iterate, next_in, level, levels}
 use Rattle.ctl.specs.Labels.{marks, targets, is_kept, label_of, label, marked}
-use Rattle.ctl.specs.Exact.{LabelsAreMeaning}
+use Rattle.ctl.specs.Exact.{LabelsAreMeaning, FormulaOfNode, LevelsArePaths}
 use Rattle.ctl.proofs.Tabulate.{length_tabulate, get_d_tabulate, get_d_tabulate_past}
 use Rattle.ctl.proofs.Joined.{joined_source}
 use Rattle.ctl.proofs.Stable.{level-length, level_mark, level_inside}
-use Rattle.ctl.proofs.Paths.{OnPaths, next_every, next_some}
-use Rattle.ctl.proofs.Fixpoint.{Along, not-true_iff, level_paths}
+use Rattle.ctl.proofs.Paths.{next_every, next_some}
+use Rattle.ctl.specs.OnPaths.{OnPaths, Along}
+use Rattle.ctl.proofs.Fixpoint.{not-true_iff, level_paths}
 use Rattle.ctl.proofs.BottomUp.{OfChildren, Reads, of-children, node-induction, bottom_up_children}
 use Rattle.ctl.proofs.Targets.{targets_sound, targets_complete, is_kept_lem, next_inside, next_of_kept}
 
@@ -48,7 +49,7 @@ formula_reads (fixpoint Always every a b) f g e = rw e.1
 formula_reads (fixpoint Always some a b) f g e = rw e.1
 
 -- the formula of a node is made of those of its children
-pub formula_of_lem : (T : Table) → Wellformed T → (i : ℕ) → i < length T.nodes → formula T i ≡ formula_of (operator_of (node_at T i)) (formula T)
+pub formula_of_lem : FormulaOfNode
 unfolding formula
 formula_of_lem T wf i h = bottom_up_children formula_of bottom formula_reads T wf i h
 
@@ -195,3 +196,9 @@ labels_are_meaning T wf list total i h s = (
   λ e. let k = marked_kept T wf list i h s e in (k, (label_mean T wf list total i h s k.0 k.1).0 e),
   λ r. (label_mean T wf list total i h s r.0.0 r.0.1).1 r.1,
 )
+
+-- The last level of a kind has a kept state just when the kind holds along the fullpaths from it.
+pub levels_are_paths : LevelsArePaths
+levels_are_paths T wf list total f q A B size s k = level_paths (length T.states) (Next T list) (targets T list)
+    (targets_sound T list) (targets_complete T list) (λ s t h. (next_inside T wf list s t h).0) total A B size
+    (λ s. has A s ≡ true) (λ s. has B s ≡ true) (λ s t h. Iff.rfl) (λ s t h. Iff.rfl) f q s k.0 k.1

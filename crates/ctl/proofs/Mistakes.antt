@@ -8,9 +8,9 @@ use lib.ListN.{length, get_or}
 use Rattle.sets.specs.Member.{member}
 use Rattle.table.specs.declared.refusal.Refusal.TheVariants.{UnreachedStep}
 use Rattle.std.specs.Prelude.{Err}
-use Rattle.table.specs.Table.{Table, state_at, step_at, node_at}
-use Rattle.table.specs.Accept.{all, any, same_step, node_fits}
-use Rattle.table.specs.Facts.{Wellformed}
+use Rattle.table.specs.Table.{Table, state_at, step_at}
+use Rattle.table.specs.Accept.{all, any}
+use Rattle.table.specs.Facts.{Wellformed, NoStepTwice, NodesFit}
 use Rattle.table.proofs.Bools.{not_so}
 use Rattle.table.proofs.Verdicts.{refused}
 use Rattle.ctl.specs.Price.{sum_below, list_price}
@@ -144,14 +144,14 @@ loops_wellformed = record {
   each_node_fits = one_node;
 }
   where
-    two_steps : (i j : ℕ) → i < j → j < 2 → same_step (step_at loops i) (step_at loops j) ≡ false
-    two_steps i zero l h = absurd (omega arith)
-    two_steps zero (suc zero) l h = refl
-    two_steps (suc i) (suc zero) l h = absurd (omega arith)
-    two_steps i (suc (suc j)) l h = absurd (omega arith)
+    two_steps : NoStepTwice loops
+    two_steps i zero l h same = absurd (omega arith)
+    two_steps zero (suc zero) l h same = omega (arith, same.0)
+    two_steps (suc i) (suc zero) l h same = absurd (omega arith)
+    two_steps i (suc (suc j)) l h same = absurd (omega arith)
 
-    one_node : (i : ℕ) → i < 1 → node_fits 1 i (node_at loops i) ≡ true
-    one_node zero h = refl
+    one_node : NodesFit loops
+    one_node zero h = (omega arith, refl)
     one_node (suc i) h = absurd (omega arith)
 
 both_form : IsList loops both_loops

@@ -15,14 +15,10 @@ use Rattle.table.proofs.Bools.{not_so}
 use Rattle.ctl.specs.Meaning.{Fullpath, Released, UntilAlong}
 use Rattle.ctl.specs.Rule.{Quantifier, every, some}
 use Rattle.ctl.specs.Levels.{has, iterate, next_in, joined, level, levels}
+use Rattle.ctl.specs.OnPaths.{OnPaths}
 use Rattle.ctl.proofs.Tabulate.{all_true, all-false, any-true}
 use Rattle.ctl.proofs.Stable.{level_mark, levels_fixed}
 use Rattle.ctl.proofs.Joined.{other}
-
--- what holds along every fullpath from s, or along some
-abbrev pub OnPaths : Quantifier → (ℕ → ℕ → Type 0) → ℕ → ((ℕ → ℕ) → Type 0) → Type 0
-OnPaths every next s P = (π : ℕ → ℕ) → Fullpath next s π → P π
-OnPaths some next s P = (π : ℕ → ℕ) × Fullpath next s π × P π
 
 -- it fails at a state
 abbrev pub Not : (ℕ → Type 0) → ℕ → Type 0

@@ -6,8 +6,7 @@ use Rattle.table.specs.declared.operator.Family.{Family}
 use Rattle.table.specs.declared.operator.Family.TheVariants.{Release, Until, Eventually, Always}
 use Rattle.ctl.specs.Meaning.{Formula, bottom, top, proposition, neg, both, either, ax, ex, av, ev, au, eu, af, ef, ag, eg, Fullpath, Holds}
 use Rattle.ctl.specs.Rule.{Quantifier, every, some}
-use Rattle.ctl.proofs.Paths.{OnPaths}
-use Rattle.ctl.proofs.Fixpoint.{Along}
+use Rattle.ctl.specs.OnPaths.{OnPaths, Along}
 
 -- the steps out of a state in R are steps of both, and lead to states in R
 pub record Agree (R : ℕ → Type 0) (next other : ℕ → ℕ → Type 0) : Type 0 where

@@ -6,16 +6,21 @@ use Rattle.ctl.specs.Meaning.{Formula, bottom, top, neg, av, ev, au, eu, af, ef,
 use Rattle.ctl.specs.Rule.{formula}
 use Rattle.ctl.specs.Kept.{Next, Kept, Total, Labelled}
 
--- two formulas hold at the same states, whatever the steps and the labels
-abbrev pub Same : Formula → Formula → Type 1
-Same a b = (next : ℕ → ℕ → Type 0) (labelled : ℕ → ℕ → Type 0) (s : ℕ) → Holds next labelled a s ↔ Holds next labelled b s
+-- two formulas hold at the same states, of these steps and labels
+abbrev pub Same : (ℕ → ℕ → Type 0) → (ℕ → ℕ → Type 0) → Formula → Formula → Type 0
+Same next labelled a b = (s : ℕ) → Holds next labelled a s ↔ Holds next labelled b s
 
 -- F is U with a true everywhere, and G is V with a false everywhere
-pub record SpecialCases : Type 1 where
-  pub af_is : (a : Formula) → Same (af a) (au top a)
-  pub ef_is : (a : Formula) → Same (ef a) (eu top a)
-  pub ag_is : (a : Formula) → Same (ag a) (av bottom a)
-  pub eg_is : (a : Formula) → Same (eg a) (ev bottom a)
+pub record SpecialCases (next labelled : ℕ → ℕ → Type 0) : Type 0 where
+  pub af_is : (a : Formula) → Same next labelled (af a) (au top a)
+  pub ef_is : (a : Formula) → Same next labelled (ef a) (eu top a)
+  pub ag_is : (a : Formula) → Same next labelled (ag a) (av bottom a)
+  pub eg_is : (a : Formula) → Same next labelled (eg a) (ev bottom a)
+
+-- This is so of any steps and labels (proofs/Duals.antt), and here of the kept steps and the labels of any table and list:
+-- a contract cannot speak of every relation.
+abbrev pub AreSpecialCases : Type 0
+AreSpecialCases = (T : Table) (list : List ℕ) → SpecialCases (Next T list) (Labelled T)
 
 -- the formula holds at s, with the kept steps
 abbrev pub HoldsAt : Table → List ℕ → Formula → ℕ → Type 0

@@ -1,9 +1,16 @@
--- What labels promise: over infinite paths they are the meaning of the rule. And what striking promises of a repair.
-use Rattle.std.specs.Prelude.{ℕ, ◌<◌, ◌≡◌, true, ◌↔◌, List, length}
-use Rattle.table.specs.Table.{Table}
+-- What labels promise: over infinite paths they are the meaning of the rule. And what striking promises of a repair. Each
+-- statement is the contract of a law (src/laws.rt).
+use Rattle.std.specs.Prelude.{ℕ, ◌<◌, ◌≡◌, Bool, true, ◌↔◌, ◌⊎◌, List, length}
+use Rattle.table.specs.declared.operator.Family.{Family}
+use Rattle.table.specs.Table.{Table, node_at}
 use Rattle.table.specs.Facts.{Wellformed}
-use Rattle.ctl.specs.Kept.{Kept, Total, NodeHolds, Struck, Repair, NarrowRepair}
-use Rattle.ctl.specs.Labels.{marked}
+use Rattle.ctl.specs.Rule.{Quantifier, operator_of, formula_of, formula}
+use Rattle.ctl.specs.Kept.{IsList, Next, Kept, Total, NodeHolds, Struck, Repair, NarrowRepair}
+use Rattle.ctl.specs.Price.{list_price}
+use Rattle.ctl.specs.Rank.{RanksBefore, Cheapest}
+use Rattle.ctl.specs.OnPaths.{OnPaths, Along}
+use Rattle.ctl.specs.Levels.{has, levels}
+use Rattle.ctl.specs.Labels.{targets, marked}
 use Rattle.ctl.specs.Reached.{strike}
 
 -- under a total list, a state is marked for a node exactly when it is kept and the node holds at it
@@ -23,3 +30,26 @@ StrikingNarrows = (T : Table) → Wellformed T → (list : List ℕ) → Repair 
 -- So a table has a repair in the one sense just when it has one in the other: strike the one, or take the other as it is.
 abbrev pub SensesAgree : Type 0
 SensesAgree = (T : Table) → Wellformed T → ((list : List ℕ) → ¬ Repair T list) ↔ ((list : List ℕ) → ¬ NarrowRepair T list)
+
+-- the formula of a node is its operator on the formulas of its children
+abbrev pub FormulaOfNode : Type 0
+FormulaOfNode =
+    (T : Table) → Wellformed T → (i : ℕ) → i < length T.nodes → formula T i ≡ formula_of (operator_of (node_at T i)) (formula T)
+
+-- The level argument: for any sets of states, the last level of a fixed-point kind has a kept state exactly when the kind
+-- holds along the fullpaths of kept steps from that state, of the sets.
+abbrev pub LevelsArePaths : Type 0
+LevelsArePaths =
+    (T : Table) → Wellformed T → (list : List ℕ) → Total T list → (f : Family) (q : Quantifier) (A B : List Bool) → length B ≡ length T.states
+    → (s : ℕ) → Kept T list s → (has (levels f q (targets T list) (length T.states) A B) s ≡ true)
+    ↔ OnPaths q (Next T list) s (Along f (λ s. has A s ≡ true) (λ s. has B s ≡ true))
+
+-- rank orders the lists of a table strictly, and of two different ones it tells which is first
+pub record RankOrders (T : Table) : Type 0 where
+  pub irreflexive : (l : List ℕ) → ¬ RanksBefore l l
+  pub transitive : (l m k : List ℕ) → IsList T l → IsList T m → RanksBefore l m → RanksBefore m k → RanksBefore l k
+  pub total : (l m : List ℕ) → IsList T l → IsList T m → (l ≡ m) ⊎ (RanksBefore l m ⊎ RanksBefore m l)
+
+-- so no table has two repairs that are the cheapest, then first in rank
+abbrev pub CheapestIsUnique : Type 0
+CheapestIsUnique = (T : Table) (l m : List ℕ) → Cheapest (list_price T) (Repair T) l → Cheapest (list_price T) (Repair T) m → l ≡ m

@@ -52,16 +52,28 @@ pub record Struck (T : Table) (before after : List ℕ) : Type 0 where
   pub reached : (j : ℕ) → j < length T.steps → Reached T before (step_at T j).from → get_or after j 0 ≡ get_or before j 0
   pub unreached : (j : ℕ) → j < length T.steps → ¬ Reached T before (step_at T j).from → get_or after j 0 ≡ 0
 
--- A repair in 01's sense: the list is total, at least one initial state is kept, and the root holds at every kept initial state. None, and the rank of
--- what the search finds, are promised of this sense.
+-- the parts of a repair besides its form and that it is total: an initial state is kept,
+abbrev pub KeepsInitial : Table → List ℕ → Type 0
+KeepsInitial T list = (s : ℕ) × Initial T s × Kept T list s
+
+-- each kept step leaves a reached state,
+abbrev pub OnlyReached : Table → List ℕ → Type 0
+OnlyReached T list = (s t : ℕ) → Next T list s t → Reached T list s
+
+-- and the root holds at every kept initial state
+abbrev pub RuleHolds : Table → List ℕ → Type 0
+RuleHolds T list = (s : ℕ) → Initial T s → Kept T list s → NodeHolds T list (root_index T) s
+
+-- A repair in the wider sense: the list is total, at least one initial state is kept, and the root holds at every kept
+-- initial state. None, and the rank of what the search finds, are promised of this sense.
 pub record Repair (T : Table) (list : List ℕ) : Type 0 where
   pub form : IsList T list
   pub total : Total T list
-  pub starts : (s : ℕ) × Initial T s × Kept T list s
-  pub rule : (s : ℕ) → Initial T s → Kept T list s → NodeHolds T list (root_index T) s
+  pub starts : KeepsInitial T list
+  pub rule : RuleHolds T list
 
--- A repair in the narrower sense of 02's A3: besides, each kept step leaves a reached state. The list that is written is one, and these are the lists
--- that the judge accepts.
+-- A repair in the narrower sense: besides, each kept step leaves a reached state. The list that is written is one, and
+-- these are the lists that the judge accepts.
 pub record NarrowRepair (T : Table) (list : List ℕ) : Type 0 where
   pub repair : Repair T list
-  pub reached : (s t : ℕ) → Next T list s t → Reached T list s
+  pub reached : OnlyReached T list

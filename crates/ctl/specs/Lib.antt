@@ -1,5 +1,6 @@
 pub mod Meaning
 pub mod Rule
+pub mod OnPaths
 pub mod Kept
 pub mod Rank
 pub mod Price
@@ -9,3 +10,4 @@ pub mod Reached
 pub mod Tests
 pub mod Exact
 pub mod Duals
+pub mod Refused

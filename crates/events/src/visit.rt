@@ -78,7 +78,7 @@ pub fn plain_visit(
         return Report::default();
     }
     let look = word & sets::below(net.graph.states);
-    let report = node_step(net.table.bytes, &net.graph, rows, looks, i, operator, look);
+    let report = node_step(&net.table, &net.graph, rows, looks, i, operator, look);
     if !is_quiet(report) {
         return report;
     }

@@ -1,3 +1,7 @@
-pub mod Demand1
-pub mod Demand2
-pub mod Demand3
+pub mod Numbers
+pub mod AfterRepair
+pub mod AfterLists
+pub mod AfterRead
+pub mod LentMemory
+pub mod LabelsMeanCtl
+pub mod RepairerAndJudge

@@ -1,4 +1,5 @@
-pub mod Exports
-pub mod Demand1
-pub mod Demand2
-pub mod Demand3
+pub mod LentMemory
+pub mod LabelsMeanCtl
+pub mod Numbers
+pub mod RepairerAndJudge
+pub mod TotalWithRoom

@@ -1,17 +1,27 @@
-// The face of the fitter to C: each export is the call of that name of the crate fitter, under the same contract. Nothing else is exported. A crate is a
-// library for other crates or an archive for C, and the calls have to be both.
+// The calls of the fitter for C: each answers a number, stores what its answer carries, and leaves in every lent buffer
+// what its contract says. Nothing else is exported. A crate is a library for other crates or an archive for C: the
+// library is the crate fitter, whose calls answer by types.
 #![tactic(auto)]
 
-ghost use Rattle.std.specs.Prelude.{◌≡◌, length};
+mod store;
+
+ghost use Rattle.std.specs.Prelude.{◌≡◌, ◌↔◌, length};
+ghost use Rattle.table.specs.Facts.{IsTable};
+ghost use Rattle.table.specs.Table.{table_of};
 ghost use Rattle.table.specs.Verdict.{verdict_number};
+ghost use Rattle.ctl.specs.Kept.{NarrowRepair};
 ghost use Rattle.ctl.specs.Tests.{judge_verdict};
 ghost use Rattle.label.specs.Calls.{label_verdict, label_buffer, holding_answer, holding_buffer};
 ghost use Rattle.reader.specs.Read.{read_answer, read_buffer};
-ghost use Rattle.repair.specs.Answer.{answer_number};
+ghost use Rattle.search.specs.Answer.{answer_number};
+ghost use Rattle.repair.specs.Right.{LongEnough, RepairIsRight};
 ghost use Rattle.repair.specs.Outcome.{repair_answer, repair_list, repair_bytes, repair_words};
-ghost use Rattle.fitter.specs.Exports.{holding_count, read_length, repair_choices, repair_price, repair_settled};
+ghost use Rattle.fitter_c.specs.Exports.{holding_count, read_length, repair_choices, repair_price, repair_settled};
 
-// 0 found, 14 none or 15 spent, and the choices, the price and the settled steps stored; or the refusal's number and nothing stored or written.
+use store::{store_answer, store_count};
+
+// 0 found, 14 none or 15 spent, and the choices, the price and the settled steps stored; or the refusal's number and
+// nothing stored or written.
 #[unsafe(no_mangle)]
 pub extern "C" fn fitter_repair(
     table: &[u8],
@@ -27,19 +37,31 @@ pub extern "C" fn fitter_repair(
     ensures list_after { list.new ≡ repair_list table.now cap list.old bytes.old words.old }
     ensures bytes_after { bytes.new ≡ repair_bytes table.now cap list.old bytes.old words.old }
     ensures words_after { words.new ≡ repair_words table.now cap list.old bytes.old words.old }
-    ensures choices_after { choices.new ≡ repair_choices (repair_answer table.now cap list.old bytes.old words.old) choices.old }
-    ensures price_after { price.new ≡ repair_price (repair_answer table.now cap list.old bytes.old words.old) price.old }
-    ensures settled_after { settled.new ≡ repair_settled (repair_answer table.now cap list.old bytes.old words.old) settled.old }
+    ensures choices_after { choices.new
+        ≡ repair_choices (repair_answer table.now cap list.old bytes.old words.old) choices.old }
+    ensures price_after { price.new
+        ≡ repair_price (repair_answer table.now cap list.old bytes.old words.old) price.old }
+    ensures settled_after { settled.new
+        ≡ repair_settled (repair_answer table.now cap list.old bytes.old words.old) settled.old }
+    ensures right { LongEnough table.now list.old bytes.old words.old
+        → RepairIsRight table.now cap (repair_answer table.now cap list.old bytes.old words.old) list.old list.new }
 {
-    fitter::fitter_repair(table, cap, list, bytes, words, choices, price, settled)
+    store_answer(
+        fitter::repair(table, cap, list, bytes, words),
+        choices,
+        price,
+        settled,
+    )
 }
 
 // 0 where the list is a repair of the table in the narrower sense, else the refusal's number.
+#[tactic(auto, using(crate::proofs::Judged::judged_exact))]
 #[unsafe(no_mangle)]
 pub extern "C" fn fitter_judge(table: &[u8], list: &[u8]) -> u32
-    ensures { result ≡ verdict_number (judge_verdict table.now list.now) }
+    ensures value { result ≡ verdict_number (judge_verdict table.now list.now) }
+    ensures exact { (result ≡ 0) ↔ (IsTable table.now × NarrowRepair (table_of table.now) list.now) }
 {
-    fitter::fitter_judge(table, list)
+    table::verdict_number(fitter::judge_list(table, list))
 }
 
 // 0 and an entry for each node, or the refusal's number and nothing written.
@@ -48,7 +70,7 @@ pub extern "C" fn fitter_label(table: &[u8], list: &[u8], out: &mut [u32]) -> u3
     ensures value { result ≡ verdict_number (label_verdict table.now list.now (length out.old)) }
     ensures out_after { out.new ≡ label_buffer table.now list.now out.old }
 {
-    fitter::fitter_label(table, list, out)
+    table::verdict_number(fitter::label_nodes(table, list, out))
 }
 
 // 0, the states of the root's set in reading order and their count, or the refusal's number and nothing written.
@@ -58,7 +80,7 @@ pub extern "C" fn fitter_holding(table: &[u8], list: &[u8], out: &mut [u8], coun
     ensures out_after { out.new ≡ holding_buffer table.now list.now out.old }
     ensures count_after { count.new ≡ holding_count (holding_answer table.now list.now (length out.old)) count.old }
 {
-    fitter::fitter_holding(table, list, out, count)
+    store_count(fitter::holding_states(table, list, out), count)
 }
 
 // 0, the packed table of the sheet written and its length stored, or the refusal's number and nothing written.
@@ -68,5 +90,5 @@ pub extern "C" fn fitter_read(text: &[u8], out: &mut [u8], length: &mut u64) -> 
     ensures out_after { out.new ≡ read_buffer text.now out.old }
     ensures length_after { length.new ≡ read_length (read_answer text.now out.old) length.old }
 {
-    fitter::fitter_read(text, out, length)
+    store_count(fitter::read(text, out).map(|k| k as u64), length)
 }

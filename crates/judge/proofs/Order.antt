@@ -10,7 +10,7 @@ use Rattle.table.specs.Table.{Table, table_of}
 use Rattle.table.specs.Accept.{table_verdict, list_verdict}
 use Rattle.ctl.specs.Tests.{is_total, keeps_initial, leaves_reached, root_marked, judge_verdict}
 use Rattle.label.specs.Analysis.{analysis_verdict}
-use Rattle.label.proofs.Order.{then_assoc}
+use Rattle.table.proofs.Verdicts.{then_assoc}
 
 -- what is tested after the analysis
 abbrev pub last_tests : Table → List ℕ → Verdict

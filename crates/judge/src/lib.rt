@@ -3,18 +3,26 @@
 
 mod reached;
 
-ghost use Rattle.std.specs.Prelude.{◌≡◌};
+ghost use Rattle.std.specs.Prelude.{◌≡◌, ◌↔◌, Ok, IfErr};
+ghost use Rattle.table.specs.Table.{table_of};
+ghost use Rattle.table.specs.Facts.{IsTable};
+ghost use Rattle.ctl.specs.Kept.{NarrowRepair};
+ghost use Rattle.ctl.specs.Refused.{JudgeRefused};
 ghost use Rattle.ctl.specs.Tests.{judge_verdict};
 
 use label::{Room, analyse};
 use reached::reached_states;
-use table::Refusal;
+use table::{Accepted, Refusal};
 
-// Tests 2 to 9, 11, 12, 16 and 13 in this order, whatever the bytes.
+/// The tests of a table, and of a list in the order of its form, total, an initial state kept, only reached states left, and
+/// the rule, whatever the bytes.
 pub fn judge_list(table: &[u8], list: &[u8]) -> Result<(), Refusal>
-    ensures { result ≡ judge_verdict table.now list.now }
+    ensures value { result ≡ judge_verdict table.now list.now }
+    ensures exact { (result ≡ Ok tt) ↔ (IsTable table.now × NarrowRepair (table_of table.now) list.now) }
+    ensures refused { IfErr result (JudgeRefused table.now list.now) }
 {
-    let a = analyse(table, list, Room::Any)?;
+    let table = Accepted::try_from(table)?;
+    let a = analyse(&table, list, Room::Any)?;
     let starts = sets::intersection(a.initial, a.kept);
     if starts == 0 {
         return Err(Refusal::NoInitialKept);

@@ -15,7 +15,7 @@ use Rattle.sets.proofs.Laws.{member_past}
 use Rattle.sets.proofs.SetOf.{member-set_of-below, set_of-lt}
 use Rattle.table.specs.declared.refusal.Refusal.{Refusal}
 use Rattle.table.specs.Verdict.{Verdict}
-use Rattle.std.specs.Prelude.{Ok, Err}
+use Rattle.std.specs.Prelude.{Ok, Err, OnOk, OnErr}
 use Rattle.table.specs.Buffer.{on_accepted, over, Written}
 use Rattle.table.specs.Table.{table_of}
 use Rattle.table.specs.Facts.{Wellformed}
@@ -79,8 +79,9 @@ module _ (table list buffer : List ℕ) (ok : label_verdict table list (length b
           member_past 32 (set_of 32 (marked (table_of table) list i)) s (set_of-lt 32 (marked (table_of table) list i)) (omega (arith, d))
           ∙ sym (unmarked i h s (omega (arith, d, wf.few_states)))
 
-  pub label_exact : LabelIsExact table list buffer
+  pub label_exact : LabelIsExact (table_of table) list buffer (label_buffer table list buffer)
   label_exact = record {
+    size = label_written.size;
     bits = λ i h s.
         let total = (is-total (table_of table) list).0 (total_accepted (leb (length (table_of table).nodes) (length buffer)) table list ok) in
         subst (λ (b : Bool). (b ≡ true) ↔ (Kept (table_of table) list s × NodeHolds (table_of table) list i s)) (sym (bit_at i h s))
@@ -88,3 +89,13 @@ module _ (table list buffer : List ℕ) (ok : label_verdict table list (length b
     high = λ i h s past. bit_at i h s ∙ unmarked i h s past;
     rest = λ i h. label_written.rest i (omega (arith, front));
   }
+
+-- the same of an answer that is the verdict, and a buffer that is the one after it
+module _ (table list before after : List ℕ) (now : after ≡ label_buffer table list before) where
+  pub label_marks : (v : Verdict) → v ≡ label_verdict table list (length before) → OnOk v (LabelIsExact (table_of table) list before after)
+  label_marks (Ok tt) e = rw now (label_exact table list before (sym e))
+  label_marks (Err r) e = tt
+
+  pub label_unmarked : (v : Verdict) → v ≡ label_verdict table list (length before) → OnErr v (after ≡ before)
+  label_unmarked (Ok tt) e = tt
+  label_unmarked (Err r) e = now ∙ label_untouched table list before r (sym e)

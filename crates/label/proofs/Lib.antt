@@ -12,3 +12,5 @@ pub mod Lowest
 pub mod ReadingOrder
 pub mod Held
 pub mod Exact
+pub mod Tests
+pub mod HeldExact

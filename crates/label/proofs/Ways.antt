@@ -1,5 +1,5 @@
 -- What an analysis that was made says of the verdict.
-use mathlib.Core.Path.{◌≡◌, refl}
+use mathlib.Core.Path.{◌≡◌, refl, ap, ◌∙◌}
 use Prim.Native.Nat.{ℕ}
 use mathlib.Core.Bool.{Bool, true, false, cond}
 use mathlib.Core.List.{List}
@@ -34,3 +34,8 @@ module _ (room : Room) (table list : List ℕ) where
 
   pub way_refused : (r : Refusal) → Err r ≡ analysis_of room table list → verdict ≡ Err r
   way_refused r e = refused verdict (sets_of (table_of table) list) r e
+
+-- an analysis of the same bytes under another name
+pub analysis_moved : (room : Room) (list bytes table : List ℕ) → bytes ≡ table → (x : Result Analysis Refusal) → x ≡ analysis_of room bytes list
+    → x ≡ analysis_of room table list
+analysis_moved room list bytes table same x e = e ∙ ap (λ (b : List ℕ). analysis_of room b list) same

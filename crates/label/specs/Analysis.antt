@@ -15,11 +15,7 @@ use Rattle.label.specs.declared.analysis.Analysis.{Analysis}
 use Rattle.label.specs.declared.room.Room.{Room}
 use Rattle.label.specs.declared.room.Room.TheVariants.{Any, Nodes, States}
 
--- 2 to 8, and 9: the form of a table, and of a list for it
-unfoldable pub form_verdict : List ℕ → List ℕ → Verdict
-form_verdict table list = table_verdict table then list_verdict (length (table_of table).steps) list
-
--- 2 to 8, 9, 10, 11 in their order. 10 is whether the lent buffer has room
+-- The tests of a table, of the list's form, of the lent buffer's room and of whether the list is total, in this order
 unfoldable pub analysis_verdict : Bool → List ℕ → List ℕ → Verdict
 analysis_verdict room table list =
     table_verdict table

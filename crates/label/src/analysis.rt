@@ -1,7 +1,7 @@
-// What Label, Holding and the judge share: the tests of a table and a list, and the sets of the nodes.
+// What Label, Holding and the judge share: the tests of a list of an accepted table, and the sets of the nodes.
 ghost use Rattle.std.specs.Prelude.{◌≡◌, length};
 ghost use Rattle.table.specs.Table.{table_of};
-ghost use Rattle.label.specs.Analysis.{form_verdict, total_sets, analysis_of};
+ghost use Rattle.label.specs.Analysis.{total_sets, analysis_of};
 
 use crate::pass::label_pass;
 use crate::room::{Room, room_fits};
@@ -19,16 +19,7 @@ pub struct Analysis {
     pub words: [u32; 32],
 }
 
-// Tests 2 to 9, the form of a table and of a list for it.
-#[tactic(auto, using(table::proofs::Facts::steps_are), unfolding(crate::specs::Analysis::form_verdict))]
-fn check_form(table: &[u8], list: &[u8]) -> Result<(), Refusal>
-    ensures { result ≡ form_verdict table.now list.now }
-{
-    accept::check_table(table)?;
-    accept::check_list(list, table::counts_of(table).steps)
-}
-
-// Test 11, and the sets of a list that passes it.
+// Whether the list is total, and the sets of one that is.
 fn total_sets(table: &Accepted<'_>, list: &[u8]) -> Result<Analysis, Refusal>
     requires { length list.now ≡ length (table_of table.now.bytes.now).steps }
     ensures { result ≡ total_sets (table_of table.now.bytes.now) list.now }
@@ -47,14 +38,13 @@ fn total_sets(table: &Accepted<'_>, list: &[u8]) -> Result<Analysis, Refusal>
     })
 }
 
-// Tests 2 to 11 in their order, and the sets of a list that passes them.
-pub fn analyse(table: &[u8], list: &[u8], room: Room) -> Result<Analysis, Refusal>
-    ensures { result ≡ analysis_of room table.now list.now }
+// The tests of a list and of the room in their order, and the sets of a list that passes them.
+pub fn analyse(table: &Accepted<'_>, list: &[u8], room: Room) -> Result<Analysis, Refusal>
+    ensures { result ≡ analysis_of room table.now.bytes.now list.now }
 {
-    check_form(table, list)?;
-    let table = Accepted::new(table);
-    if !room_fits(room, &table) {
+    table::check_list(list, table.step_count())?;
+    if !room_fits(room, table) {
         return Err(Refusal::ShortBuffer);
     }
-    total_sets(&table, list)
+    total_sets(table, list)
 }

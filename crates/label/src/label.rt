@@ -1,18 +1,33 @@
 // Label: the set of each node, written into lent words.
-ghost use Rattle.std.specs.Prelude.{◌≡◌, length};
+ghost use Rattle.std.specs.Prelude.{◌≡◌, ◌↔◌, ◌≤◌, Ok, IfErr, OnOk, OnErr, length};
+ghost use Rattle.table.specs.Table.{table_of};
+ghost use Rattle.table.specs.Facts.{IsTable};
+ghost use Rattle.ctl.specs.Kept.{IsList, Total};
+ghost use Rattle.ctl.specs.Refused.{ListRefused};
 ghost use Rattle.label.specs.Calls.{label_verdict, label_buffer};
+ghost use Rattle.label.specs.Exact.{LabelIsExact};
 
 use crate::analysis::analyse;
 use crate::room::Room;
-use table::{Refusal, counts_of};
+use table::{Accepted, Refusal};
 
-// Bit s of entry i says whether state s is marked for node i; one entry for each node, the rest as it was.
+/// Bit s of entry i says whether state s is kept and node i holds there; one entry for each node, the rest as it was.
 pub fn label_nodes(table: &[u8], list: &[u8], out: &mut [u32]) -> Result<(), Refusal>
     ensures value { result ≡ label_verdict table.now list.now (length out.old) }
     ensures out_after { out.new ≡ label_buffer table.now list.now out.old }
+    ensures accepted { (result ≡ Ok tt) ↔ (
+        IsTable table.now
+        × IsList (table_of table.now) list.now
+        × Total (table_of table.now) list.now
+        × (length (table_of table.now).nodes ≤ length out.old)
+        ) }
+    ensures refused { IfErr result (ListRefused (length (table_of table.now).nodes) (length out.old) table.now list.now) }
+    ensures marks { OnOk result (LabelIsExact (table_of table.now) list.now out.old out.new) }
+    ensures untouched { OnErr result (out.new ≡ out.old) }
 {
-    let a = analyse(table, list, Room::Nodes(out.len()))?;
-    let f = counts_of(table).nodes;
+    let table = Accepted::try_from(table)?;
+    let a = analyse(&table, list, Room::Nodes(out.len()))?;
+    let f = table.node_count();
     out[..f].copy_from_slice(&a.words[..f]);
     Ok(())
 }

@@ -2,12 +2,12 @@
 use Prim.Native.Nat.{ℕ, ◌≤◌, ◌<◌}
 use mathlib.Core.Path.{◌≡◌, refl, sym, ap, ◌∙◌}
 use mathlib.Core.Bool.{Bool, true, false}
-use mathlib.Core.List.{List, ◌++◌}
+use mathlib.Core.List.{List}
 use mathlib.Core.Option.{Option, none, some}
 use native.Mathlib.Omega.{arith}
 use borrow.Author.Tests.{le-leb, lt-leb}
 use lib.Dec.{leb}
-use lib.ListN.{length, drop}
+use lib.ListN.{length}
 use Rattle.table.specs.declared.refusal.Refusal.{Refusal}
 use Rattle.table.specs.declared.refusal.Refusal.TheVariants.{SheetForm, Counts as CountsRefused, ShortBuffer}
 use Rattle.table.specs.Verdict.{Verdict, require}
@@ -21,39 +21,39 @@ use Rattle.sheet.specs.Parse.{parse}
 use Rattle.reader.specs.Read.{pack, packed, Answer, sheet_verdict, read_verdict, answer, buffer, read_answer, read_buffer}
 use Rattle.reader.proofs.Packed.{pack-length, counts_pack}
 
+-- the answer and the buffer that go with a verdict
 module _ (text out : List ℕ) where
-  -- an answer, and the buffer that goes with it
   abbrev pub Outcome : Answer → List ℕ → Type 0
   Outcome r after = (r ≡ read_answer text out) × (after ≡ read_buffer text out)
 
+  pub answered : (w : Verdict) → read_verdict text (length out) ≡ w → (t : List ℕ) → packed (parse text) ≡ t → Outcome (answer w t) (buffer w t out)
+  answered w h t e = (λ i. answer (sym h i) (sym e i), λ i. buffer (sym h i) (sym e i) out)
+
+module _ (text : List ℕ) (room : ℕ) where
   -- test 1
-  pub not_of_form : parse text ≡ none → Outcome (Err SheetForm) out
+  pub not_of_form : parse text ≡ none → read_verdict text room ≡ Err SheetForm
   unfolding read_verdict
-  not_of_form e = (ap (λ (p : Option Sheet). answer (sheet_verdict p (length out)) (packed p)) (sym e), ap (λ (p : Option Sheet). buffer (sheet_verdict p (length out)) (packed p) out) (sym e))
+  not_of_form e = ap (λ (p : Option Sheet). sheet_verdict p room) e
 
   module _ (v : Sheet) (e : parse text ≡ some v) where
-    outcome : (w : Verdict) → sheet_verdict (some v) (length out) ≡ w → Outcome (answer w (pack v)) (buffer w (pack v) out)
+    abbrev test_10 : Verdict
+    test_10 = require ShortBuffer (leb (length (pack v)) room)
+
+    of_sheet : (w : Verdict) → sheet_verdict (some v) room ≡ w → read_verdict text room ≡ w
     unfolding read_verdict
-    outcome w h = (
-      ap (λ (x : Verdict). answer x (pack v)) (sym h) ∙ ap (λ (p : Option Sheet). answer (sheet_verdict p (length out)) (packed p)) (sym e),
-      ap (λ (x : Verdict). buffer x (pack v) out) (sym h) ∙ ap (λ (p : Option Sheet). buffer (sheet_verdict p (length out)) (packed p) out) (sym e),
-    )
+    of_sheet w h = ap (λ (p : Option Sheet). sheet_verdict p room) e ∙ h
 
     -- refused by the table's tests
-    pub table_refused : (r : Refusal) → table_verdict (pack v) ≡ Err r → Outcome (Err r) out
-    table_refused r h = outcome (Err r) (then_refused (table_verdict (pack v)) (require ShortBuffer (leb (length (pack v)) (length out))) r h ∙ h)
+    pub table_refused : (r : Refusal) → table_verdict (pack v) ≡ Err r → read_verdict text room ≡ Err r
+    table_refused r h = of_sheet (Err r) (then_refused (table_verdict (pack v)) test_10 r h ∙ h)
 
     -- a table that does not fit the lent buffer
-    pub too_short : table_verdict (pack v) ≡ Ok tt → length out < length (pack v) → Outcome (Err ShortBuffer) out
-    too_short h l =
-        outcome (Err ShortBuffer)
-        (then_next (table_verdict (pack v)) (require ShortBuffer (leb (length (pack v)) (length out))) h ∙ ap (require ShortBuffer) (lt-leb (length (pack v)) (length out) l))
+    pub too_short : table_verdict (pack v) ≡ Ok tt → room < length (pack v) → read_verdict text room ≡ Err ShortBuffer
+    too_short h l = of_sheet (Err ShortBuffer) (then_next (table_verdict (pack v)) test_10 h ∙ ap (require ShortBuffer) (lt-leb (length (pack v)) room l))
 
     -- an accepted table that fits
-    pub accepted_read : table_verdict (pack v) ≡ Ok tt → length (pack v) ≤ length out → Outcome (Ok (length (pack v))) (pack v ++ drop (length (pack v)) out)
-    accepted_read h l =
-        outcome (Ok tt)
-        (then_next (table_verdict (pack v)) (require ShortBuffer (leb (length (pack v)) (length out))) h ∙ ap (require ShortBuffer) (le-leb (length (pack v)) (length out) l))
+    pub accepted_read : table_verdict (pack v) ≡ Ok tt → length (pack v) ≤ room → read_verdict text room ≡ Ok tt
+    accepted_read h l = of_sheet (Ok tt) (then_next (table_verdict (pack v)) test_10 h ∙ ap (require ShortBuffer) (le-leb (length (pack v)) room l))
 
 -- a length is answered where every test passed
 pub length_back : (v : Verdict) (table : List ℕ) (k : ℕ) → answer v table ≡ Ok k → (v ≡ Ok tt) × (length table ≡ k)

@@ -1,1 +1,4 @@
 pub mod Read
+pub mod Exact
+pub mod Sample
+pub mod Readings

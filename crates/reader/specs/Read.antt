@@ -1,11 +1,12 @@
--- 01, "Calls", 5: a sheet into a packed table. Tests 1, 3 to 8 and 10, and what is answered and written.
-use Rattle.std.specs.Prelude.{ℕ, ◌/◌, ◌%◌, List, [], ◌∷◌, ◌++◌, leb, length, drop, Result, Ok, Err}
+-- A sheet into a packed table. Tests 1, 3 to 8 and 10, and what is answered and written.
+use Rattle.std.specs.Prelude.{ℕ, ◌/◌, ◌%◌, ◌≡◌, List, [], ◌∷◌, ◌++◌, leb, length, drop, Result, Ok, Err}
 use Rattle.std.proofs.Math.Option.{Option, none, some}
 use Rattle.table.specs.declared.counts.Counts.{Counts}
 use Rattle.table.specs.declared.record.State.{State}
 use Rattle.table.specs.declared.record.Step.{Step}
 use Rattle.table.specs.declared.record.Node.{Node}
 use Rattle.table.specs.declared.refusal.Refusal.{Refusal}
+use Rattle.table.specs.declared.accepted.Accepted.{Accepted}
 use Rattle.table.specs.declared.refusal.Refusal.TheVariants.{SheetForm, ShortBuffer}
 use Rattle.table.specs.Verdict.{Verdict, require, ◌then◌}
 use Rattle.table.specs.Buffer.{on_accepted}
@@ -65,3 +66,8 @@ read_answer text out = answer (read_verdict text (length out)) (packed (parse te
 
 abbrev pub read_buffer : List ℕ → List ℕ → List ℕ
 read_buffer text out = buffer (read_verdict text (length out)) (packed (parse text)) out
+
+-- what was read into bytes of the longest table's length, 580, where every accepted table has room: the packed table, or the refusal
+abbrev pub ReadInto : List ℕ → Result Accepted Refusal → Type 0
+ReadInto text (Ok table) = (read_verdict text 580 ≡ Ok tt) × (table.bytes.now ≡ packed (parse text))
+ReadInto text (Err r) = read_verdict text 580 ≡ Err r

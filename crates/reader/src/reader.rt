@@ -1,20 +1,24 @@
 // Read: a sheet into a packed table.
-ghost use Rattle.std.specs.Prelude.{◌≡◌};
-ghost use Rattle.reader.specs.Read.{read_answer, read_buffer};
+ghost use Rattle.std.specs.Prelude.{◌≡◌, length, replicate, OnErr, IfErr, IfOk};
+ghost use Rattle.table.specs.Facts.{IsTable};
+ghost use Rattle.reader.specs.Read.{read_answer, read_buffer, ReadInto};
+ghost use Rattle.reader.specs.Exact.{SheetOf, ReadIsExact, TextRefused, ReadRefused};
 
 use crate::pack::pack_sheet;
-use accept::check_table;
 use sheet::check_form;
-use table::{Refusal, packed_length};
+use table::{Accepted, Refusal, packed_length};
 
 // The length of the longest table.
 pub const LONGEST: usize = 580;
 
-// Test 1 first, over the whole text. A table longer than the longest has a count out of its range, 3. Else the values are packed
-// into zero bytes of the reader's own, 3 to 8 are tested there, then 10, and only then the lent buffer is written.
-pub fn read(text: &[u8], out: &mut [u8]) -> Result<usize, Refusal>
-    ensures value { result ≡ read_answer text.now out.old }
-    ensures out_after { out.new ≡ read_buffer text.now out.old }
+/// Reads a sheet into zero bytes that the caller lends, and tests the table there.
+// Test 1 first, over the whole text. A table longer than the longest has a count out of its range, 3. Else the values are packed,
+// and 2 to 8 are tested on the table, which is cut into its sections once.
+pub fn read_into<'a>(text: &[u8], packed: &'a mut [u8; LONGEST]) -> Result<Accepted<'a>, Refusal>
+    requires { packed.old ≡ replicate LONGEST 0 }
+    ensures value { ReadInto text.now result }
+    ensures refused { IfErr result (TextRefused text.now) }
+    ensures packed { IfOk result (λ table. SheetOf text.now table.bytes.now × IsTable table.bytes.now) }
 {
     let Some(form) = check_form(text) else {
         return Err(Refusal::SheetForm);
@@ -23,13 +27,25 @@ pub fn read(text: &[u8], out: &mut [u8]) -> Result<usize, Refusal>
     if LONGEST < length {
         return Err(Refusal::Counts);
     }
+    pack_sheet(&form, packed);
+    let table: &'a [u8] = &packed[..length];
+    Accepted::try_from(table)
+}
+
+// The reader packs into zero bytes of its own, as many as the longest table, before it writes: 10 is tested last, and only then
+// the lent buffer is written.
+pub fn read(text: &[u8], out: &mut [u8]) -> Result<usize, Refusal>
+    ensures value { result ≡ read_answer text.now out.old }
+    ensures out_after { out.new ≡ read_buffer text.now out.old }
+    ensures refused { IfErr result (ReadRefused text.now (length out.old)) }
+    ensures packed { IfOk result (λ k. ReadIsExact text.now k out.old out.new) }
+    ensures untouched { OnErr result (out.new ≡ out.old) }
+{
     let mut packed = [0u8; LONGEST];
-    pack_sheet(&form, &mut packed);
-    let table = &packed[..length];
-    check_table(table)?;
-    if out.len() < length {
+    let table = read_into(text, &mut packed)?.bytes;
+    if out.len() < table.len() {
         return Err(Refusal::ShortBuffer);
     }
-    out[..length].copy_from_slice(table);
-    Ok(length)
+    out[..table.len()].copy_from_slice(table);
+    Ok(table.len())
 }

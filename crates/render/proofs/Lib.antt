@@ -4,6 +4,6 @@ pub mod Sections
 pub mod Parts
 pub mod Ranges
 pub mod Bounds
-pub mod RenderOutcome
 pub mod RoundTrip
+pub mod RenderOutcome
 pub mod Sample

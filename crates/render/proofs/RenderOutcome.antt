@@ -1,6 +1,6 @@
 -- What the call that writes a sheet answers and leaves, by what was found out on the way.
 use Prim.Native.Nat.{ℕ, ◌≤◌, ◌<◌}
-use mathlib.Core.Path.{◌≡◌, sym, ap, ◌∙◌}
+use mathlib.Core.Path.{◌≡◌, refl, sym, ap, ◌∙◌}
 use mathlib.Core.List.{List, ◌++◌}
 use borrow.Author.Tests.{le-leb, lt-leb}
 use lib.Dec.{leb}
@@ -10,10 +10,16 @@ use Rattle.table.specs.declared.refusal.Refusal.TheVariants.{ShortBuffer}
 use Rattle.table.specs.Verdict.{Verdict, require}
 use Rattle.std.specs.Prelude.{Ok, Err}
 use Rattle.table.specs.Accept.{table_verdict}
+use Rattle.table.specs.Facts.{IsTable}
+use Rattle.table.specs.Refused.{TableRefused}
+use Rattle.table.proofs.Buffer.{front_written}
+use Rattle.table.proofs.Bytes.{Bytes}
 use Rattle.table.proofs.Verdicts.{then_refused, then_next}
 use Rattle.sheet.specs.Form.{render}
 use Rattle.reader.specs.Read.{Answer, answer, buffer}
 use Rattle.render.specs.Render.{sheet_of, render_verdict, render_answer, render_buffer}
+use Rattle.render.specs.Exact.{RenderIsExact, RenderRefused}
+use Rattle.render.proofs.RoundTrip.{sheet_of_table}
 
 module _ (table out : List ℕ) where
   -- an answer, and the buffer that goes with it
@@ -42,3 +48,20 @@ module _ (table out : List ℕ) where
   unfolding render_verdict
   all-written h l =
       outcome (Ok tt) (then_next (table_verdict table) (require ShortBuffer (leb (length text) (length out))) h ∙ ap (require ShortBuffer) (le-leb (length text) (length out) l))
+
+-- a table's refusal is that of the call, and never 10
+pub no_table : (table : List ℕ) (room : ℕ) (r : Refusal) → TableRefused table r → RenderRefused table room r
+no_table table room ShortBuffer t = absurd t
+no_table table room r t = t
+
+-- a sheet of k bytes that was written
+pub exact : (table : List ℕ) → Bytes table → IsTable table → (before : List ℕ) {k : ℕ} → k ≡ length (render (sheet_of table)) → length (render (sheet_of table)) ≤ length before
+    → RenderIsExact table k before (render (sheet_of table) ++ drop (length (render (sheet_of table))) before)
+exact table b is before size fits =
+    record {
+      is_table = is;
+      text = render (sheet_of table);
+      sheet = sheet_of_table table b is;
+      size = sym size;
+      written = front_written (render (sheet_of table)) before (length (render (sheet_of table))) refl fits;
+    }

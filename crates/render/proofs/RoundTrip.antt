@@ -10,15 +10,18 @@ use lib.Seq.{take_all, length-take-le, drop-drop}
 use Rattle.std.specs.Prelude.{Ok}
 use Rattle.table.specs.Table.{records, counts_of, packed_length, state_of, step_of, node_of, states_part, steps_part, nodes_part, state_width, step_width, node_width, header_width}
 use Rattle.table.specs.Accept.{table_verdict}
-use Rattle.table.proofs.Facts.{header_accepted}
+use Rattle.table.specs.Facts.{IsTable}
+use Rattle.table.proofs.Refused.{is_table}
 use Rattle.table.proofs.Bytes.{Bytes, bytes_drop, bytes_part}
 use Rattle.sheet.specs.Form.{Sheet, InRange, bytes_of, render}
 use Rattle.sheet.specs.Parse.{parse}
-use Rattle.reader.specs.Read.{pack_counts, pack_state, pack_step, pack_node, pack, read_answer, read_buffer}
-use Rattle.sheet.proofs.Whole.{parse_exact, parse-render}
+use Rattle.reader.specs.Read.{pack_counts, pack_state, pack_step, pack_node, pack, packed, read_answer, read_buffer}
+use Rattle.reader.specs.Exact.{SheetOf}
+use Rattle.sheet.proofs.Whole.{parse-render}
 use Rattle.reader.proofs.Packed.{counts_pack, table_pack}
-use Rattle.reader.proofs.Outcome.{accepted_read}
+use Rattle.reader.proofs.Outcome.{accepted_read, answered}
 use Rattle.render.specs.Render.{sheet_of}
+use Rattle.render.specs.RoundTrip.{RoundTrip}
 use Rattle.render.proofs.Ranges.{sheet_range}
 
 -- records read from bytes are packed into the same bytes
@@ -98,26 +101,35 @@ module _ (l : List ℕ) (b : Bytes l) (size : length l ≡ packed_length (counts
       (λ i. counts_again l (omega arith) i ++ s i ++ x i ++ z i) ∙ sections
 
 -- reading the sheet of an accepted table: its verdict is test 10 alone, and what is packed is the table
-module _ (l : List ℕ) (b : Bytes l) (accepted : table_verdict l ≡ Ok tt) where
+module _ (l : List ℕ) (b : Bytes l) (is : IsTable l) where
+  accepted : table_verdict l ≡ Ok tt
+  accepted = (is_table l).1 is
+
   same : pack (sheet_of l) ≡ l
-  same = pack-sheet l b (header_accepted l accepted).1
+  same = pack-sheet l b is.whole
 
   -- its sheet parses to its values
   pub parse-rendered : parse (render (sheet_of l)) ≡ some (sheet_of l)
   parse-rendered = parse-render (sheet_of l) (sheet_range l b)
 
+  -- and the table is that of its sheet
+  pub sheet_of_table : SheetOf (render (sheet_of l)) l
+  sheet_of_table = (sheet_of l, sheet_range l b, refl, sym same)
+
   -- into a buffer that is long enough: the length and the table come back
   pub read_rendered : (out : List ℕ) → length l ≤ length out → (read_answer (render (sheet_of l)) out ≡ Ok (length l)) × (read_buffer (render (sheet_of l)) out ≡ l ++ drop (length l) out)
   read_rendered out h =
-      let o = accepted_read (render (sheet_of l)) out (sheet_of l) parse-rendered (ap table_verdict same ∙ accepted) (omega (arith, ap length same)) in
-      (sym o.0 ∙ ap (λ (t : List ℕ). Ok (length t)) same, sym o.1 ∙ ap (λ (t : List ℕ). t ++ drop (length t) out) same)
+      let v = accepted_read (render (sheet_of l)) (length out) (sheet_of l) parse-rendered (ap table_verdict same ∙ accepted) (omega (arith, ap length same)) in
+      let o = answered (render (sheet_of l)) out (Ok tt) v l (ap packed parse-rendered ∙ same) in
+      (sym o.0, sym o.1)
 
 -- the sheet of a packed sheet is that sheet, so a text that is read is written back
 pub sheet-pack : (v : Sheet) → InRange v → sheet_of (pack v) ≡ v
 sheet-pack v h =
     λ i. record { counts = counts_pack v i; states = (table_pack v h i).states; steps = (table_pack v h i).steps; nodes = (table_pack v h i).nodes }
 
-pub render_parsed : (text : List ℕ) (v : Sheet) → parse text ≡ some v → render (sheet_of (pack v)) ≡ text
-render_parsed text v p =
-    let q = (parse_exact text v).0 p in
-    ap render (sheet-pack v q.0) ∙ sym q.1
+pub written_again : (text table : List ℕ) → SheetOf text table → render (sheet_of table) ≡ text
+written_again text table s = ap (λ (t : List ℕ). render (sheet_of t)) s.3 ∙ ap render (sheet-pack s.0 s.1) ∙ sym s.2
+
+pub round_trip : RoundTrip
+round_trip = record { read_again = read_rendered; written_again = written_again }

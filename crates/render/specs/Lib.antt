@@ -1,1 +1,4 @@
 pub mod Render
+pub mod Exact
+pub mod RoundTrip
+pub mod Sample

@@ -1,16 +1,17 @@
 // Writing back: an accepted packed table as a sheet.
-ghost use Rattle.std.specs.Prelude.{◌≡◌};
+ghost use Rattle.std.specs.Prelude.{◌≡◌, length, OnErr, IfErr, IfOk};
 ghost use Rattle.sheet.specs.Form.{render};
 ghost use Rattle.render.specs.Render.{sheet_of, Room, Stored, render_answer, render_buffer};
+ghost use Rattle.render.specs.Exact.{RenderIsExact, RenderRefused};
 
 use crate::emit::put_bytes;
 use crate::record::write_block;
 use crate::write_line::write_values;
-use accept::check_table;
 use sheet::{COUNTS_NAMES, NODES_NAMES, STATES_NAMES, STEPS_NAMES};
 use table::{Accepted, Node, Refusal, State, Step};
 
-// No sheet of an accepted table has more bytes: so many are 32 states, 128 steps and 32 nodes with three digits a value and five a label.
+// No sheet of an accepted table has more bytes: so many are 32 states, 128 steps and 32 nodes with three digits a value and five a
+// label.
 const MOST: usize = 2318;
 
 // The four blocks, one behind the other. Answers the length.
@@ -30,9 +31,11 @@ fn write_sheet(table: &Accepted<'_>, text: &mut [u8]) -> usize
 pub fn render_table(table: &[u8], out: &mut [u8]) -> Result<usize, Refusal>
     ensures value { result ≡ render_answer table.now out.old }
     ensures out_after { out.new ≡ render_buffer table.now out.old }
+    ensures refused { IfErr result (RenderRefused table.now (length out.old)) }
+    ensures written { IfOk result (λ k. RenderIsExact table.now k out.old out.new) }
+    ensures untouched { OnErr result (out.new ≡ out.old) }
 {
-    check_table(table)?;
-    let accepted = Accepted::new(table);
+    let accepted = Accepted::try_from(table)?;
     let mut text = [0u8; MOST];
     let length = write_sheet(&accepted, &mut text);
     if out.len() < length {

@@ -7,16 +7,16 @@ use lib.ListN.{length, take, drop}
 use lib.Seq.{take_at, drop_at}
 use Rattle.table.specs.Table.{Table}
 use Rattle.ctl.specs.Reached.{strike}
-use Rattle.search.specs.declared.outcome.Outcome.TheVariants.{Found}
+use Rattle.search.specs.declared.answer.Answer.TheVariants.{Found}
 use Rattle.search.specs.Search.{Outcome, found, none, spent}
 use Rattle.search.specs.TableSearch.{list_of}
-use Rattle.search.specs.Answer.{outcome_of, list_after}
+use Rattle.search.specs.Answer.{answer_of, list_after}
 use Rattle.repair.specs.Outcome.{written_after}
 use Rattle.repair.proofs.Listed.{list_size}
 
 module _ (T : Table) (list after : List ℕ) where
   -- found: the first e bytes are struck
-  pub after_found : (o : Outcome) (p c k e : ℕ) → Found p c k ≡ outcome_of o → after ≡ list_after T o list → e ≡ length T.steps
+  pub after_found : (o : Outcome) (p c k e : ℕ) → Found p c k ≡ answer_of o → after ≡ list_after T o list → e ≡ length T.steps
       → (front : List ℕ) → front ≡ strike T (take e after) → front ++ drop e after ≡ written_after T o list
   after_found (found m q d l) p c k e same is here front struck =
       let rest = drop (length T.steps) list in

@@ -17,7 +17,7 @@ use Rattle.table.proofs.Bools.{and_parts}
 use Rattle.table.proofs.Verdicts.{then_refused, then_next, then_accepted, require_accepted}
 use Rattle.circuit.specs.Variables.{variable_formula}
 use Rattle.search.specs.TableSearch.{search_under}
-use Rattle.repair.specs.Answer.{Answer}
+use Rattle.search.specs.declared.answer.Answer.{Answer}
 use Rattle.repair.specs.Outcome.{repair_verdict, answer_at, written_after, cleared, repair_answer, repair_list, repair_bytes, repair_words}
 
 module _ (table list bytes words : List ℕ) where

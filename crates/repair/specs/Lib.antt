@@ -1,3 +1,4 @@
-pub mod Answer
 pub mod Round
 pub mod Outcome
+pub mod Refused
+pub mod Right

@@ -1,4 +1,4 @@
-// Striking: 02's A3.
+// Striking: what leaves a state that is not reached is not kept.
 ghost use Rattle.std.specs.Prelude.{◌≡◌, length};
 ghost use Rattle.ctl.specs.Reached.{strike};
 ghost use Rattle.events.specs.NetTable.{table_in};

@@ -9,21 +9,39 @@ use borrow.Author.Tests.{le-leb, lt-leb}
 use lib.ListN.{length, drop}
 use lib.Seq.{sets-eq}
 use Rattle.table.specs.declared.refusal.Refusal.TheVariants.{SheetForm}
-use Rattle.reader.specs.Read.{Answer, read_answer, read_buffer}
+use Rattle.std.specs.Prelude.{Result, Ok, Err}
+use Rattle.table.specs.declared.accepted.Accepted.{Accepted}
+use Rattle.table.specs.declared.refusal.Refusal.{Refusal}
+use Rattle.table.specs.Verdict.{Verdict}
+use Rattle.sheet.specs.Parse.{parse}
+use Rattle.reader.specs.Read.{packed, read_verdict, ReadInto}
 use Rattle.render.specs.Render.{Room, Stored}
-use Rattle.report.specs.Report.{refused, zeros, read_text, limited, fit_text}
+use Rattle.report.specs.Report.{refused, table_text, verdict_text, limited, text_under, cap, fit_text}
 use Rattle.report.proofs.Fits.{text_length}
+
+-- what is printed of a table that was read, or of why it was not
+abbrev pub into_text : Result Accepted Refusal → List ℕ
+into_text (Ok table) = table_text cap table.bytes.now
+into_text (Err r) = refused r
 
 module _ (text : List ℕ) where
   -- longer than 4,096 bytes
   pub too_long : 4096 < length text → fit_text text ≡ refused SheetForm
-  unfolding fit_text
-  too_long h = ap (λ (b : Bool). limited b text) (lt-leb (length text) 4096 h)
+  unfolding text_under
+  too_long h = ap (λ (b : Bool). limited cap b text) (lt-leb (length text) 4096 h)
 
-  -- read, with an answer and a buffer
-  pub text_read : length text ≤ 4096 → (r : Answer) (buffer : List ℕ) → r ≡ read_answer text (zeros 580) → buffer ≡ read_buffer text (zeros 580) → fit_text text ≡ read_text r buffer
-  unfolding fit_text
-  text_read h r buffer e k = ap (λ (b : Bool). limited b text) (le-leb (length text) 4096 h) ∙ (λ i. read_text (sym e i) (sym k i))
+  -- not longer, and this is the verdict
+  module _ (h : length text ≤ 4096) where
+    pub text_read : (v : Verdict) → read_verdict text 580 ≡ v → fit_text text ≡ verdict_text cap v (packed (parse text))
+    unfolding text_under
+    text_read v e =
+        ap (λ (b : Bool). limited cap b text) (le-leb (length text) 4096 h)
+        ∙ ap (λ (v : Verdict). verdict_text cap v (packed (parse text))) e
+
+    -- what was read into a table or not
+    pub text_into : (r : Result Accepted Refusal) → ReadInto text r → fit_text text ≡ into_text r
+    text_into (Ok table) e = text_read (Ok tt) e.0 ∙ ap (table_text cap) (sym e.1)
+    text_into (Err r) e = text_read (Err r) e
 
   -- there is room for all that is printed
   pub text_room : (out : List ℕ) → 2048 ≤ length out → Room out 0 (fit_text text)

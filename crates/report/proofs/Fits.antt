@@ -6,12 +6,14 @@ use mathlib.Core.List.{List, [], ◌∷◌, ◌++◌}
 use native.Mathlib.Nat.{mul-suc, le_of_eq}
 use native.Mathlib.Omega.{arith}
 use lib.Dec.{leb}
-use lib.ListN.{length, take, length-append}
+use lib.ListN.{length, length-append}
 use Rattle.table.specs.declared.record.Step.{Step}
 use Rattle.table.specs.declared.refusal.Refusal.{Refusal}
 use Rattle.table.specs.declared.refusal.Refusal.TheVariants as refusal
 use Rattle.table.specs.Verdict.{Verdict, refusal_number}
 use Rattle.std.specs.Prelude.{Ok, Err}
+use Rattle.search.specs.Answer.{answer_of}
+use Rattle.sheet.specs.Parse.{parse}
 use Rattle.table.specs.Table.{table_of, steps_of, step_at}
 use Rattle.table.specs.Accept.{all, step_fits, table_verdict}
 use Rattle.table.proofs.Facts.{accepted, step_within, header_accepted, records_accepted}
@@ -20,11 +22,11 @@ use Rattle.search.specs.Search.{Outcome, found, none, spent}
 use Rattle.search.specs.TableSearch.{search_under}
 use Rattle.search.specs.Right.{choices}
 use Rattle.sheet.specs.Form.{ascii, decimal, ended, line}
-use Rattle.reader.specs.Read.{Answer, read_answer, read_buffer}
+use Rattle.reader.specs.Read.{packed, read_verdict}
 use Rattle.render.proofs.Number.{low_length}
 use Rattle.render.proofs.Bounds.{more_digits, ended-length}
-use Rattle.repair.specs.Outcome.{repair_verdict, answer_at, answer_of, repair_list}
-use Rattle.report.specs.Report.{refused, kept_line, kept_lines, answer_text, zeros, cap, table_text, read_text, limited, fit_text}
+use Rattle.repair.specs.Outcome.{repair_verdict, answer_at, repair_list}
+use Rattle.report.specs.Report.{refused, kept_line, kept_lines, answer_text, zeros, cap, table_text, verdict_text, limited, text_under, fit_text}
 use Rattle.report.proofs.Accepted.{read_accepted, read_prices}
 use Rattle.report.proofs.Bits.{Bits, bits_zeros, list_bits}
 use Rattle.report.proofs.AtMost.{price, choices_few, price_few}
@@ -86,7 +88,7 @@ refusal_few refusal.NoInitialKept = omega arith
 refusal_few refusal.RootFails = omega arith
 refusal_few refusal.UnreachedStep = omega arith
 
-refused-length : (r : Refusal) → length (refused r) ≤ 1078
+pub refused-length : (r : Refusal) → length (refused r) ≤ 1078
 refused-length r = omega (arith, one_value (refusal_number r), two_digits (refusal_number r) (omega (arith, refusal_few r)))
 
 values_length : (c p : ℕ) → c ≤ cap → p ≤ 32640 → length (line (c ∷ p ∷ [])) ≤ 14
@@ -102,7 +104,7 @@ answer-length : (table : List ℕ) (v : Verdict) (o : Outcome) (list : List ℕ)
 answer-length table (Ok tt) o list few cheap short = outcome_length table o list few cheap short
 answer-length table (Err r) o list few cheap short = refused-length r
 
-table_length : (table : List ℕ) → table_verdict table ≡ Ok tt → ((j : ℕ) → (step_at (table_of table) j).price ≤ 255) → length (table_text table) ≤ 1078
+table_length : (table : List ℕ) → table_verdict table ≡ Ok tt → ((j : ℕ) → (step_at (table_of table) j).price ≤ 255) → length (table_text cap table) ≤ 1078
 unfolding table_text
 table_length table ok bytes =
     let T = table_of table in
@@ -117,14 +119,14 @@ table_length table ok bytes =
 
 -- ---- the whole
 
-limited-length : (b : Bool) (text : List ℕ) → length (limited b text) ≤ 1078
-limited-length true text = by (read_answer text (zeros 580)) refl
+limited-length : (b : Bool) (text : List ℕ) → length (limited cap b text) ≤ 1078
+limited-length true text = by (read_verdict text 580) refl
   where
-    by : (r : Answer) → read_answer text (zeros 580) ≡ r → length (read_text r (read_buffer text (zeros 580))) ≤ 1078
-    by (Ok k) e = table_length (take k (read_buffer text (zeros 580))) (read_accepted text (zeros 580) k e) (read_prices text (zeros 580) k e)
+    by : (v : Verdict) → read_verdict text 580 ≡ v → length (verdict_text cap v (packed (parse text))) ≤ 1078
+    by (Ok tt) e = table_length (packed (parse text)) (read_accepted text e) (read_prices text e)
     by (Err r) e = refused-length r
 limited-length false text = refused-length refusal.SheetForm
 
 pub text_length : (text : List ℕ) → length (fit_text text) ≤ 1078
-unfolding fit_text
+unfolding text_under
 text_length text = limited-length (leb (length text) 4096) text

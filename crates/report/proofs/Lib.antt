@@ -4,4 +4,8 @@ pub mod Bits
 pub mod AtMost
 pub mod Fits
 pub mod Cases
-pub mod Samples
+pub mod Back
+pub mod Says
+pub mod Printed
+pub mod Written
+pub mod SampleTexts

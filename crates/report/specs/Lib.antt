@@ -1,2 +1,4 @@
 pub mod Report
+pub mod Exact
+pub mod Run
 pub mod Samples

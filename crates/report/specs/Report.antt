@@ -1,14 +1,15 @@
--- 01, "The sheet", as 02's A4 has it: what program `fit` prints, for every text that it reads.
-use Rattle.std.specs.Prelude.{ℕ, Bool, true, false, List, [], ◌∷◌, ◌++◌, leb, length, take, replicate, Result, Ok, Err}
+-- What program `fit` prints, for every text that it reads.
+use Rattle.std.specs.Prelude.{ℕ, Bool, true, false, List, [], ◌∷◌, ◌++◌, leb, length, replicate, Ok, Err}
 use Rattle.table.specs.declared.record.Step.{Step}
 use Rattle.table.specs.declared.refusal.Refusal.{Refusal}
 use Rattle.table.specs.declared.refusal.Refusal.TheVariants.{SheetForm}
-use Rattle.table.specs.Verdict.{refusal_number}
+use Rattle.table.specs.Verdict.{Verdict, refusal_number}
 use Rattle.table.specs.Table.{steps_of}
-use Rattle.search.specs.declared.outcome.Outcome.{Outcome}
-use Rattle.search.specs.declared.outcome.Outcome.TheVariants.{Found, None, Spent}
+use Rattle.search.specs.declared.answer.Answer.{Answer}
+use Rattle.search.specs.declared.answer.Answer.TheVariants.{Found, None, Spent, Refused}
 use Rattle.sheet.specs.Form.{ascii, line}
-use Rattle.reader.specs.Read.{Answer, read_answer, read_buffer}
+use Rattle.sheet.specs.Parse.{parse}
+use Rattle.reader.specs.Read.{packed, read_verdict}
 use Rattle.repair.specs.Outcome.{repair_answer, repair_list}
 
 -- found, none and spent come with the choices and the price, refused with the refusal's number
@@ -29,37 +30,44 @@ kept_lines (x ∷ steps) (kept ∷ list) = kept_line x kept ++ kept_lines steps 
 
 -- where a repair is found, the list as well
 abbrev pub found_text : List ℕ → ℕ → ℕ → List ℕ → List ℕ
-found_text table price choices list = counted (ascii "found ") choices price ++ (ascii "from to kept\n" ++ kept_lines (steps_of table) list)
+found_text table price choices list =
+    counted (ascii "found ") choices price ++ (ascii "from to kept\n" ++ kept_lines (steps_of table) list)
 
--- What is printed of Repair's answer and of the list that it leaves: "price 0 for none and spent". The settled steps are not printed.
-abbrev pub answer_text : List ℕ → Result Outcome Refusal → List ℕ → List ℕ
-answer_text table (Ok (Found price choices settled)) list = found_text table price choices list
-answer_text table (Ok (None choices settled)) list = counted (ascii "none ") choices 0
-answer_text table (Ok (Spent choices settled)) list = counted (ascii "spent ") choices 0
-answer_text table (Err r) list = refused r
+-- What is printed of Repair's answer and of the list that it leaves; none and spent are printed with the price 0. The
+-- settled steps are not printed.
+abbrev pub answer_text : List ℕ → Answer → List ℕ → List ℕ
+answer_text table (Found price choices settled) list = found_text table price choices list
+answer_text table (None choices settled) list = counted (ascii "none ") choices 0
+answer_text table (Spent choices settled) list = counted (ascii "spent ") choices 0
+answer_text table (Refused r) list = refused r
 
--- 128 list bytes and 10,000 work entries, all zero at first, and the cap
+-- 128 list bytes and 10,000 work entries are lent, all zero at first
 abbrev pub zeros : ℕ → List ℕ
 zeros k = replicate k 0
 
+-- what is printed of a table that is searched with at most so many choices
+unfoldable pub table_text : ℕ → List ℕ → List ℕ
+table_text most table =
+    answer_text table
+    (repair_answer table most (zeros 128) (zeros 10000) (zeros 10000))
+    (repair_list table most (zeros 128) (zeros 10000) (zeros 10000))
+
+-- what is printed of a text whose packed table has this verdict
+abbrev pub verdict_text : ℕ → Verdict → List ℕ → List ℕ
+verdict_text most (Ok tt) table = table_text most table
+verdict_text most (Err r) table = refused r
+
+-- A text of at most 4,096 bytes is read where there is room for each table, 580 bytes; a longer one is refused with 1.
+abbrev pub limited : ℕ → Bool → List ℕ → List ℕ
+limited most true text = verdict_text most (read_verdict text 580) (packed (parse text))
+limited most false text = refused SheetForm
+
+unfoldable pub text_under : ℕ → List ℕ → List ℕ
+text_under most text = limited most (leb (length text) 4096) text
+
+-- the most choices that the program makes
 abbrev pub cap : ℕ
 cap = 1000000
 
-unfoldable pub table_text : List ℕ → List ℕ
-table_text table =
-    answer_text table
-    (repair_answer table cap (zeros 128) (zeros 10000) (zeros 10000))
-    (repair_list table cap (zeros 128) (zeros 10000) (zeros 10000))
-
--- what is printed of Read's answer and of the buffer that it leaves
-abbrev pub read_text : Answer → List ℕ → List ℕ
-read_text (Ok k) buffer = table_text (take k buffer)
-read_text (Err r) buffer = refused r
-
--- a text of at most 4,096 bytes is read into 580 bytes, a longer one is refused with 1
-abbrev pub limited : Bool → List ℕ → List ℕ
-limited true text = read_text (read_answer text (zeros 580)) (read_buffer text (zeros 580))
-limited false text = refused SheetForm
-
-unfoldable pub fit_text : List ℕ → List ℕ
-fit_text text = limited (leb (length text) 4096) text
+abbrev pub fit_text : List ℕ → List ℕ
+fit_text text = text_under cap text

@@ -6,7 +6,7 @@ use crate::STEPS;
 use crate::lines::write_answer;
 use crate::steps::write_steps;
 use render::{put_bytes, write_values};
-use search::Outcome;
+use search::Answer;
 use table::{Accepted, Refusal};
 
 pub fn write_refused(out: &mut [u8], refusal: Refusal) -> usize
@@ -35,7 +35,7 @@ fn write_found(
 
 pub fn write_result(
     table: &Accepted<'_>,
-    answer: Result<Outcome, Refusal>,
+    answer: Answer,
     list: &[u8; STEPS],
     out: &mut [u8],
 ) -> usize
@@ -43,9 +43,9 @@ pub fn write_result(
     ensures { Stored out.old 0 (answer_text table.now.bytes.now answer list.now) out.new result }
 {
     match answer {
-        Ok(Outcome::Found(p, c, _)) => write_found(table, p, c, list, out),
-        Ok(Outcome::None(c, _)) => write_answer(out, b"none ", c as usize, 0),
-        Ok(Outcome::Spent(c, _)) => write_answer(out, b"spent ", c as usize, 0),
-        Err(refusal) => write_refused(out, refusal),
+        Answer::Found { price, choices, .. } => write_found(table, price, choices, list, out),
+        Answer::None { choices, .. } => write_answer(out, b"none ", choices as usize, 0),
+        Answer::Spent { choices, .. } => write_answer(out, b"spent ", choices as usize, 0),
+        Answer::Refused(refusal) => write_refused(out, refusal),
     }
 }

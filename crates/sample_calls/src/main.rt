@@ -1,4 +1,5 @@
-// 01's samples that are not starred, run through the calls: the example of each number that a call gives, and the most steps that a table may have.
+// Samples, run through the calls: an example of each answer that a call gives, and the most steps that a table may
+// have.
 #![tactic(auto)]
 
 mod calls;

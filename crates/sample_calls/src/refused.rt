@@ -1,22 +1,19 @@
 // 1 to 13, and 16: the example of each refusal.
 use crate::calls::{repair, repair_in, sheet};
-use crate::print::print_sample;
+use crate::print::{print_answer, print_tested};
 use std::io;
 
 fn print_refused(rt: &impl Print, table: &[u8], sample: &str) -> io::Result<()> {
-    let r = repair(table, 1000000);
-    print_sample(rt, r.number, sample)
+    print_answer(rt, repair(table, 1000000), sample)
 }
 
 fn print_judged(rt: &impl Print, table: &[u8], list: &[u8], sample: &str) -> io::Result<()> {
-    print_sample(rt, fitter::fitter_judge(table, list), sample)
+    print_tested(rt, fitter::judge_list(table, list), sample)
 }
 
 fn run_read(rt: &impl Print) -> io::Result<()> {
     let mut out = [0u8; 580];
-    let mut length = 0;
-    let number = fitter::fitter_read(b"", &mut out, &mut length);
-    print_sample(rt, number, "an empty text")
+    print_tested(rt, fitter::read(b"", &mut out), "an empty text")
 }
 
 // 33 states of 3 bytes, and one node.
@@ -27,12 +24,15 @@ fn run_counts(rt: &impl Print) -> io::Result<()> {
     print_refused(rt, &table, "n = 33")
 }
 
-// 01's sheet has 100 variables.
+// The sample sheet's circuit has 100 variables.
 fn run_short(rt: &impl Print) -> io::Result<()> {
     let table = sheet();
     let mut bytes = [0u8; 99];
-    let r = repair_in(&table, 1000000, &mut bytes);
-    print_sample(rt, r.number, "100 variables, 99 work bytes")
+    print_answer(
+        rt,
+        repair_in(&table, 1000000, &mut bytes),
+        "100 variables, 99 work bytes",
+    )
 }
 
 pub fn run_tables(rt: &impl Print) -> io::Result<()> {

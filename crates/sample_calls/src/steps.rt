@@ -1,8 +1,10 @@
 // The most steps that a table may have.
-use crate::print::print_sample;
+use crate::print::print_tested;
 use std::io;
+use table::Accepted;
 
-// 32 states, the first one initial, and 129 steps: all from 0, 1, 2 and 3, and one from 4, each priced by its number. The node behind them is still missing.
+// 32 states, the first one initial, and 129 steps: all from 0, 1, 2 and 3, and one from 4, each priced by its number.
+// The node behind them is still missing.
 fn stepped() -> [u8; 490] {
     let mut table = [0u8; 490];
     table[0] = 32;
@@ -17,11 +19,7 @@ fn stepped() -> [u8; 490] {
 }
 
 fn print_checked(rt: &impl Print, table: &[u8], sample: &str) -> io::Result<()> {
-    print_sample(
-        rt,
-        table::verdict_number(accept::check_table(table)),
-        sample,
-    )
+    print_tested(rt, Accepted::try_from(table), sample)
 }
 
 // The node, true, stands behind the last step that counts.

@@ -1,4 +1,4 @@
--- Every starred sample has its answer, by computation from the definitions.
+-- Every sample has its answer, by computation from the definitions.
 use mathlib.Core.Path.{◌≡◌, refl}
 use mathlib.Core.Bool.{true}
 use Rattle.sets.specs.Member.{member, count_of}
@@ -11,15 +11,16 @@ use Rattle.ctl.specs.Price.{sum_below}
 use Rattle.ctl.specs.Reached.{reached_set, strike}
 use Rattle.ctl.specs.Tests.{judge_verdict}
 use Rattle.circuit.specs.Logic.{gate_clauses}
-use Rattle.circuit.specs.Variables.{concat, out_of, node_variables, variables}
+use Rattle.circuit.specs.Variables.{concat, out_of, node_variables, variables, costs, variable_formula}
 use Rattle.circuit.specs.Gates.{node_gates, gates}
 use Rattle.circuit.specs.Clauses.{demands, clauses}
 use Rattle.closure.specs.Closure.{open_in, take_clause, round, rounds, marks_of}
 use Rattle.search.specs.Search.{walk, search}
 use Rattle.closure.specs.Numbered.{same_code, place, numbered_clauses}
 use Rattle.search.specs.TableSearch.{table_search}
+use Rattle.repair.specs.Outcome.{repair_verdict}
 use Rattle.samples.specs.Samples.{answers, passes, cases}
 
 pub samples_pass : all passes cases ≡ true
-unfolding member count_of records all any distinct nodes_fit table_verdict list_verdict bottom_up tabulate iterate next_in level levels kept_steps ends_from label_of label sum_below reached_set strike judge_verdict gate_clauses concat out_of node_variables variables node_gates gates select demands clauses open_in take_clause round rounds marks_of walk search same_code place numbered_clauses table_search answers passes
+unfolding member count_of records all any distinct nodes_fit table_verdict list_verdict bottom_up tabulate iterate next_in level levels kept_steps ends_from label_of label sum_below reached_set strike judge_verdict gate_clauses concat out_of node_variables variables node_gates gates select demands clauses open_in take_clause round rounds marks_of walk search same_code place numbered_clauses table_search answers passes costs variable_formula repair_verdict
 samples_pass = refl

@@ -1,6 +1,6 @@
--- Samples of the kinds 10 to 15, beside the starred ones: two states, all four steps between them, and a rule of one kind over two propositions.
+-- Samples of the kinds 10 to 15: two states, all four steps between them, and a rule of one kind over two propositions.
 use Rattle.std.specs.Prelude.{ℕ, List, [], ◌∷◌, ◌++◌}
-use Rattle.samples.specs.Samples.{finds, finds_none, spends, Case, searched, judged}
+use Rattle.samples.specs.Samples.{finds, finds_none, spends, Case, repaired, judged}
 
 -- States 0, which is initial, and 1, with these labels; steps 0 0, 0 1, 1 1 and 1 0, each of price 1; the nodes p0, p1 and the rule.
 abbrev pub pages : ℕ → ℕ → List ℕ → List ℕ
@@ -37,29 +37,29 @@ no_stay = 0 ∷ 1 ∷ 1 ∷ 1 ∷ []
 -- Labels 1 2: p0 at state 0 and p1 at state 1. Labels 0 2: p1 at state 1 alone. Labels 2 0: p1 at state 0 alone.
 abbrev pub family_cases : List Case
 family_cases =
-    searched (pages 1 2 (p0_until_p1 10)) 1000000 (finds no_stay no_stay 1 6 0)
-    ∷ searched (pages 0 2 (p0_until_p1 10)) 1000000 (finds_none 0 0)
+    repaired (pages 1 2 (p0_until_p1 10)) 1000000 (finds no_stay no_stay 1 6 0)
+    ∷ repaired (pages 0 2 (p0_until_p1 10)) 1000000 (finds_none 0 0)
     ∷ judged (pages 1 2 (p0_until_p1 10)) all_kept 13
     ∷ judged (pages 1 2 (p0_until_p1 10)) leaves 0
-    ∷ searched (pages 1 2 (p0_until_p1 11)) 1000000 (finds all_kept all_kept 0 8 0)
-    ∷ searched (pages 0 2 (p0_until_p1 11)) 1000000 (finds_none 0 0)
+    ∷ repaired (pages 1 2 (p0_until_p1 11)) 1000000 (finds all_kept all_kept 0 8 0)
+    ∷ repaired (pages 0 2 (p0_until_p1 11)) 1000000 (finds_none 0 0)
     ∷ judged (pages 1 2 (p0_until_p1 11)) all_kept 0
     ∷ judged (pages 1 2 (p0_until_p1 11)) stays 13
-    ∷ searched (pages 0 2 (of_p1 12)) 1000000 (finds no_stay no_stay 1 6 0)
-    ∷ searched (pages 1 0 (of_p1 12)) 1000000 (finds_none 2 0)
+    ∷ repaired (pages 0 2 (of_p1 12)) 1000000 (finds no_stay no_stay 1 6 0)
+    ∷ repaired (pages 1 0 (of_p1 12)) 1000000 (finds_none 2 0)
     ∷ judged (pages 0 2 (of_p1 12)) all_kept 13
     ∷ judged (pages 0 2 (of_p1 12)) leaves 0
-    ∷ searched (pages 0 2 (of_p1 13)) 1000000 (finds all_kept all_kept 0 8 0)
-    ∷ searched (pages 1 0 (of_p1 13)) 1000000 (finds_none 0 0)
+    ∷ repaired (pages 0 2 (of_p1 13)) 1000000 (finds all_kept all_kept 0 8 0)
+    ∷ repaired (pages 1 0 (of_p1 13)) 1000000 (finds_none 0 0)
     ∷ judged (pages 0 2 (of_p1 13)) all_kept 0
     ∷ judged (pages 0 2 (of_p1 13)) stays 13
-    ∷ searched (pages 2 0 (of_p1 14)) 1000000 (finds (1 ∷ 0 ∷ 1 ∷ 1 ∷ []) stays 1 4 2)
-    ∷ searched (pages 2 0 (of_p1 14)) 1 (spends 1 2)
-    ∷ searched (pages 0 2 (of_p1 14)) 1000000 (finds_none 0 0)
+    ∷ repaired (pages 2 0 (of_p1 14)) 1000000 (finds (1 ∷ 0 ∷ 1 ∷ 1 ∷ []) stays 1 4 2)
+    ∷ repaired (pages 2 0 (of_p1 14)) 1 (spends 1 2)
+    ∷ repaired (pages 0 2 (of_p1 14)) 1000000 (finds_none 0 0)
     ∷ judged (pages 2 0 (of_p1 14)) all_kept 13
     ∷ judged (pages 2 0 (of_p1 14)) stays 0
-    ∷ searched (pages 2 0 (of_p1 15)) 1000000 (finds all_kept all_kept 0 6 1)
-    ∷ searched (pages 0 2 (of_p1 15)) 1000000 (finds_none 0 0)
+    ∷ repaired (pages 2 0 (of_p1 15)) 1000000 (finds all_kept all_kept 0 6 1)
+    ∷ repaired (pages 0 2 (of_p1 15)) 1000000 (finds_none 0 0)
     ∷ judged (pages 2 0 (of_p1 15)) all_kept 0
     ∷ judged (pages 2 0 (of_p1 15)) leaves 13
     ∷ judged (pages 0 2 (of_p1 15)) (1 ∷ 0 ∷ 1 ∷ 0 ∷ []) 16

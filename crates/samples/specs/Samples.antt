@@ -1,38 +1,67 @@
--- 01, "Sample tables": the cases marked *, each with its answer, as 02's A3 to A5 have it.
-use Rattle.std.specs.Prelude.{ℕ, Bool, false, ◌&&◌, List, [], ◌∷◌, ◌++◌, eqb}
+-- Sample tables, each with what a call answers: of Repair under a cap, or of the judge.
+use Rattle.std.specs.Prelude.{ℕ, Bool, false, ◌&&◌, List, [], ◌∷◌, ◌++◌, eqb, length, replicate}
 use Rattle.table.specs.Verdict.{verdict_number}
 use Rattle.table.specs.Table.{Table, table_of}
+use Rattle.table.specs.Accept.{table_verdict}
+use Rattle.ctl.specs.Price.{list_price}
 use Rattle.ctl.specs.Reached.{strike}
 use Rattle.ctl.specs.Tests.{judge_verdict}
-use Rattle.search.specs.Search.{Outcome, found, none, spent}
+use Rattle.circuit.specs.Variables.{variable_formula}
 use Rattle.closure.specs.Numbered.{same_code}
-use Rattle.search.specs.TableSearch.{search_under, list_of}
+use Rattle.search.specs.declared.answer.Answer.{Answer}
+use Rattle.search.specs.declared.answer.Answer.TheVariants.{Found, None, Spent, Refused}
+use Rattle.repair.specs.Outcome.{repair_answer, repair_list}
 
--- What the search answers, with its choices and, 02's A5, the steps settled before the first. What it finds is given before striking and struck, and then
--- the price of the first of the two.
-pub data Answer : Type 0 where
-  finds : List ℕ → List ℕ → ℕ → ℕ → ℕ → Answer
-  finds_none spends : ℕ → ℕ → Answer
+-- What Repair is expected to answer, with its choices and the steps settled before the first. What it finds is given before striking and
+-- as it is written, and then the price of the first of the two.
+pub data Expected : Type 0 where
+  finds : List ℕ → List ℕ → ℕ → ℕ → ℕ → Expected
+  finds_none spends : ℕ → ℕ → Expected
 
--- a table searched under a cap, or a list judged
+-- a table repaired under a cap, or a list judged: by the number of its refusal, 0 where it is accepted
 pub data Case : Type 0 where
-  searched : List ℕ → ℕ → Answer → Case
+  repaired : List ℕ → ℕ → Expected → Case
   judged : List ℕ → List ℕ → ℕ → Case
 
-unfoldable pub answers : Table → Answer → Outcome → Bool
-answers T (finds before list p c k) (found m q d l) = same_code (list_of T m) before && same_code (strike T before) list && eqb q p && eqb d c && eqb l k
-answers T (finds before list p c k) (none d l) = false
-answers T (finds before list p c k) (spent d l) = false
-answers T (finds_none c k) (found m q d l) = false
-answers T (finds_none c k) (none d l) = eqb d c && eqb l k
-answers T (finds_none c k) (spent d l) = false
-answers T (spends c k) (found m q d l) = false
-answers T (spends c k) (none d l) = false
-answers T (spends c k) (spent d l) = eqb d c && eqb l k
+-- the answer, and the list that was lent as it is after the call and as it was before
+unfoldable pub answers : Table → Expected → Answer → List ℕ → List ℕ → Bool
+answers T (finds chosen written p c k) (Found q d l) after before =
+    same_code after written
+    && same_code (strike T chosen) written
+    && eqb (list_price T chosen) p
+    && eqb q p
+    && eqb d c
+    && eqb l k
+answers T (finds chosen written p c k) (None d l) after before = false
+answers T (finds chosen written p c k) (Spent d l) after before = false
+answers T (finds chosen written p c k) (Refused r) after before = false
+answers T (finds_none c k) (Found q d l) after before = false
+answers T (finds_none c k) (None d l) after before = same_code after before && eqb d c && eqb l k
+answers T (finds_none c k) (Spent d l) after before = false
+answers T (finds_none c k) (Refused r) after before = false
+answers T (spends c k) (Found q d l) after before = false
+answers T (spends c k) (None d l) after before = false
+answers T (spends c k) (Spent d l) after before = same_code after before && eqb d c && eqb l k
+answers T (spends c k) (Refused r) after before = false
 
+-- What is lent: just long enough, with 9 in each entry.
+abbrev pub lent_list : Table → List ℕ
+lent_list T = replicate (length T.steps) 9
+
+abbrev pub lent_work : Table → List ℕ
+lent_work T = replicate (variable_formula T) 9
+
+-- the table is accepted, and the call answers what is expected
 unfoldable pub passes : Case → Bool
-passes (searched table cap answer) = let T = table_of table in answers T answer (search_under T cap)
-passes (judged table list number) = eqb (verdict_number (judge_verdict table list)) number
+passes (repaired table cap expected) =
+    let T = table_of table in
+    eqb (verdict_number (table_verdict table)) 0
+    && answers T expected
+    (repair_answer table cap (lent_list T) (lent_work T) (lent_work T))
+    (repair_list table cap (lent_list T) (lent_work T) (lent_work T))
+    (lent_list T)
+passes (judged table list number) =
+    eqb (verdict_number (table_verdict table)) 0 && eqb (verdict_number (judge_verdict table list)) number
 
 -- the sheet: three states, four steps with these prices; always, no endless stretch of proposition 0
 abbrev pub priced : ℕ → ℕ → ℕ → ℕ → List ℕ
@@ -60,18 +89,18 @@ dead_end = (2 ∷ 1 ∷ 1 ∷ 0 ∷ []) ++ (1 ∷ 0 ∷ 0 ∷ 0 ∷ 0 ∷ 0 ∷ 
 
 abbrev pub cases : List Case
 cases =
-    searched sheet 1000000 (finds (1 ∷ 1 ∷ 0 ∷ 1 ∷ []) (1 ∷ 1 ∷ 0 ∷ 0 ∷ []) 3 6 1)
-    ∷ searched sheet 6 (finds (1 ∷ 1 ∷ 0 ∷ 1 ∷ []) (1 ∷ 1 ∷ 0 ∷ 0 ∷ []) 3 6 1)
-    ∷ searched sheet 5 (spends 5 1)
-    ∷ searched sheet 3 (spends 3 1)
+    repaired sheet 1000000 (finds (1 ∷ 1 ∷ 0 ∷ 1 ∷ []) (1 ∷ 1 ∷ 0 ∷ 0 ∷ []) 3 6 1)
+    ∷ repaired sheet 6 (finds (1 ∷ 1 ∷ 0 ∷ 1 ∷ []) (1 ∷ 1 ∷ 0 ∷ 0 ∷ []) 3 6 1)
+    ∷ repaired sheet 5 (spends 5 1)
+    ∷ repaired sheet 3 (spends 3 1)
     ∷ judged sheet (1 ∷ 1 ∷ 0 ∷ 1 ∷ []) 16
     ∷ judged sheet (1 ∷ 1 ∷ 0 ∷ 0 ∷ []) 0
     ∷ judged sheet (1 ∷ 1 ∷ 1 ∷ 1 ∷ []) 13
     ∷ judged sheet (1 ∷ 1 ∷ 1 ∷ 0 ∷ []) 11
     ∷ judged sheet (0 ∷ 0 ∷ 0 ∷ 1 ∷ []) 12
-    ∷ searched (loop 1) 1000000 (finds_none 0 0)
-    ∷ searched (loop 2) 1000000 (finds (1 ∷ []) (1 ∷ []) 0 0 1)
-    ∷ searched (loop 3) 1000000 (finds (1 ∷ []) (1 ∷ []) 0 0 1)
-    ∷ searched two_loops 1000000 (finds (1 ∷ 0 ∷ []) (1 ∷ 0 ∷ []) 255 0 2)
-    ∷ searched dead_end 1000000 (finds_none 0 0)
+    ∷ repaired (loop 1) 1000000 (finds_none 0 0)
+    ∷ repaired (loop 2) 1000000 (finds (1 ∷ []) (1 ∷ []) 0 0 1)
+    ∷ repaired (loop 3) 1000000 (finds (1 ∷ []) (1 ∷ []) 0 0 1)
+    ∷ repaired two_loops 1000000 (finds (1 ∷ 0 ∷ []) (1 ∷ 0 ∷ []) 255 0 2)
+    ∷ repaired dead_end 1000000 (finds_none 0 0)
     ∷ []

@@ -1,6 +1,6 @@
--- Samples of 02's A5, beside the starred ones: the steps that the closure of nothing settles, with each answer.
+-- Samples of the steps that the closure of nothing settles, with each answer.
 use Rattle.std.specs.Prelude.{ℕ, List, [], ◌∷◌, ◌++◌}
-use Rattle.samples.specs.Samples.{finds, finds_none, spends, Case, searched, sheet}
+use Rattle.samples.specs.Samples.{finds, finds_none, spends, Case, repaired, sheet}
 
 -- State 0 is initial, and step 0 0 is its only way on, so it is kept. After step 1 2 there is none, so it is struck. Each costs 1. A rule of this kind, 0 or 1.
 abbrev pub branch : ℕ → List ℕ
@@ -18,8 +18,8 @@ never =
 -- is 0; none after two choices; spent before the first.
 abbrev pub settled_cases : List Case
 settled_cases =
-    searched (branch 1) 0 (finds (1 ∷ 0 ∷ []) (1 ∷ 0 ∷ []) 1 0 2)
-    ∷ searched (branch 0) 0 (finds_none 0 0)
-    ∷ searched never 1000000 (finds_none 2 1)
-    ∷ searched sheet 0 (spends 0 1)
+    repaired (branch 1) 0 (finds (1 ∷ 0 ∷ []) (1 ∷ 0 ∷ []) 1 0 2)
+    ∷ repaired (branch 0) 0 (finds_none 0 0)
+    ∷ repaired never 1000000 (finds_none 2 1)
+    ∷ repaired sheet 0 (spends 0 1)
     ∷ []

@@ -11,7 +11,7 @@ use lib.ListN.{length}
 use lib.Pow.{pow_pos}
 use Rattle.circuit.specs.Logic.{Literal, pos, neg}
 use Rattle.closure.specs.Closure.{Marks, mark_at, is_known, Progress, clash, marked, settled_below}
-use Rattle.search.specs.Search.{Best, unfound, find, undercuts, Walked, passed, cut, spent, answer_of, capped, uncapped, pursue, walk, walk_all, search}
+use Rattle.search.specs.Search.{Best, unfound, find, undercuts, Walked, passed, cut, spent, outcome_of, capped, uncapped, pursue, walk, walk_all, search}
 use Rattle.search.specs.Right.{choices, settled}
 use Rattle.search.proofs.Step.{pursued, chosen, and_then, walk_known, walk_unknown}
 
@@ -20,13 +20,13 @@ abbrev pub made : Walked → ℕ
 made (passed b c) = c
 made (cut c) = c
 
-choices_made : (k : ℕ) (w : Walked) → choices (answer_of k w) ≡ made w
+choices_made : (k : ℕ) (w : Walked) → choices (outcome_of k w) ≡ made w
 choices_made k (passed unfound c) = refl
 choices_made k (passed (find m p) c) = refl
 choices_made k (cut c) = refl
 
 -- the settled steps are those it is given
-pub settled_given : (k : ℕ) (w : Walked) → settled (answer_of k w) ≡ k
+pub settled_given : (k : ℕ) (w : Walked) → settled (outcome_of k w) ≡ k
 settled_given k (passed unfound c) = refl
 settled_given k (passed (find m p) c) = refl
 settled_given k (cut c) = refl
@@ -96,7 +96,7 @@ module _ (close : List (Literal ℕ) → Progress) (price : Marks → ℕ) where
   unfolding search
   search_unspent steps c k = by (walk_all uncapped close price steps) (search_bound steps).uncut
     where
-      by : (w : Walked) → ((d : ℕ) → ¬ (w ≡ cut d)) → ¬ (answer_of (settled_below (length steps) (close [])) w ≡ spent c k)
+      by : (w : Walked) → ((d : ℕ) → ¬ (w ≡ cut d)) → ¬ (outcome_of (settled_below (length steps) (close [])) w ≡ spent c k)
       by (passed unfound d) u e = let z : ◌≡◌ {A = ℕ} 0 1 = cc in omega arith
       by (passed (find m p) d) u e = let z : ◌≡◌ {A = ℕ} 0 1 = cc in omega arith
       by (cut d) u e = u d refl
@@ -196,8 +196,8 @@ module _ (close : List (Literal ℕ) → Progress) (price : Marks → ℕ) (step
   unfolding search under free first
   search_cut more = by whole
     where
-      by : Capped cap under free → answer_of first under ≡ spent cap (settled (answer_of first free))
-      by (over h e) = ap (answer_of first) e ∙ ap (spent cap) (sym (settled_given first free))
+      by : Capped cap under free → outcome_of first under ≡ spent cap (settled (outcome_of first free))
+      by (over h e) = ap (outcome_of first) e ∙ ap (spent cap) (sym (settled_given first free))
       by (within h e) = absurd (omega (arith, choices_made first free))
 
   -- where it makes no more, the one under the cap gives the same
@@ -205,6 +205,6 @@ module _ (close : List (Literal ℕ) → Progress) (price : Marks → ℕ) (step
   unfolding search under free first
   search_same few = by whole
     where
-      by : Capped cap under free → answer_of first under ≡ answer_of first free
+      by : Capped cap under free → outcome_of first under ≡ outcome_of first free
       by (over h e) = absurd (omega (arith, choices_made first free))
-      by (within h e) = ap (answer_of first) e
+      by (within h e) = ap (outcome_of first) e

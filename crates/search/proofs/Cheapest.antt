@@ -12,7 +12,7 @@ use lib.ListN.{length, get_or}
 use Rattle.ctl.specs.Rank.{RanksBefore, Cheapest}
 use Rattle.circuit.specs.Logic.{Literal, pos, neg}
 use Rattle.closure.specs.Closure.{Marks, mark_at, is_known, Progress, clash, marked, settled_below}
-use Rattle.search.specs.Search.{Best, unfound, find, undercuts, Walked, passed, cut, found, none, answer_of, uncapped, pursue, choose, walk, walk_all, search}
+use Rattle.search.specs.Search.{Best, unfound, find, undercuts, Walked, passed, cut, found, none, outcome_of, uncapped, pursue, choose, walk, walk_all, search}
 use Rattle.search.proofs.Step.{pursued, and_then, walk_known, walk_unknown}
 use Rattle.search.proofs.InOrder.{up_from, below_up_from}
 use Rattle.search.specs.TableSearch.{bytes_of}
@@ -177,7 +177,7 @@ module _ {e : ℕ} {Model : List ℕ → Type 0} {close : List (Literal ℕ) →
       no_model b q (stays _ empty) list model = true≢false (empty list (model, member_none (AgreesWith list)))
       no_model b q (finds m f _ _) list model = let w : unfound ≡ find m (cost (bytes_of e m)) = sym q ∙ f in let z : ◌≡◌ {A = ℕ} 0 1 = cc in omega arith
 
-      to : (w : Walked) → Walks [] unfound w → (c k : ℕ) → answer_of first w ≡ none c k → (list : List ℕ) → ¬ Model list
+      to : (w : Walked) → Walks [] unfound w → (c k : ℕ) → outcome_of first w ≡ none c k → (list : List ℕ) → ¬ Model list
       to (passed unfound d) a c k q = no_model unfound refl a
       to (passed (find m p) d) a c k q = let z : ◌≡◌ {A = ℕ} 0 1 = cc in absurd (omega arith)
       to (cut d) a c k q = absurd a
@@ -186,7 +186,7 @@ module _ {e : ℕ} {Model : List ℕ → Type 0} {close : List (Literal ℕ) →
       from_found m p (stays f _) empty = let z : ◌≡◌ {A = ℕ} 0 1 = cc in omega arith
       from_found m p (finds n f _ c) empty = empty (bytes_of e n) c.first.member.0.0
 
-      from : (w : Walked) → Walks [] unfound w → ((list : List ℕ) → ¬ Model list) → (c : ℕ) × (k : ℕ) × (answer_of first w ≡ none c k)
+      from : (w : Walked) → Walks [] unfound w → ((list : List ℕ) → ¬ Model list) → (c : ℕ) × (k : ℕ) × (outcome_of first w ≡ none c k)
       from (passed unfound c) a empty = (c, first, refl)
       from (passed (find m p) c) a empty = absurd (from_found m p a empty)
       from (cut c) a empty = absurd a
@@ -212,7 +212,7 @@ module _ {e : ℕ} {Model : List ℕ → Type 0} {close : List (Literal ℕ) →
           let price_p : p ≡ cost (bytes_of e n) = cc in
           (whole (rw n_m at c), rw n_m at price_p)
 
-      by : (w : Walked) → Walks [] unfound w → answer_of first w ≡ found m p c k → Cheapest cost Model (bytes_of e m) × (p ≡ cost (bytes_of e m))
+      by : (w : Walked) → Walks [] unfound w → outcome_of first w ≡ found m p c k → Cheapest cost Model (bytes_of e m) × (p ≡ cost (bytes_of e m))
       by (passed unfound d) a q = let z : ◌≡◌ {A = ℕ} 0 1 = cc in absurd (omega arith)
       by (passed (find m' p') d) a q = let same_m : m' ≡ m = cc in let same_p : p' ≡ p = cc in of_find m' p' same_m same_p a
       by (cut d) a q = absurd a

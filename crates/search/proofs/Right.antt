@@ -15,7 +15,7 @@ use Rattle.search.specs.TableSearch.{mark_price, table_search, search_free}
 use Rattle.search.specs.Right.{settled, SearchIsRight}
 use Rattle.search.proofs.Cap.{settled_given, search_unspent, search_cut, search_same, search_few}
 use Rattle.search.proofs.Cheapest.{search_none, search_found}
-use Rattle.search.proofs.StepClosure.{settled_right}
+use Rattle.search.proofs.StepClosure.{clash_exact, mark_exact, settled_right}
 use Rattle.search.proofs.ClosureRight.{closure-is_right}
 use Rattle.search.proofs.PriceRight.{price_is_right}
 use Rattle.ctl.specs.Levels.{below}
@@ -45,4 +45,6 @@ search_is_right T wf =
       same_within = search_same close price steps;
       few_choices = rw length_tabulate at (search_few close price steps);
       settled_exact = settled_first T wf;
+      closure_fails = λ P fine. clash_exact T wf P fine;
+      closure_holds = λ P fine m new e j sign. mark_exact T wf P fine e j sign;
     }

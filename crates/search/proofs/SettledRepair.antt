@@ -16,7 +16,8 @@ use Rattle.circuit.specs.Variables.{Var, variables, variable_count}
 use Rattle.circuit.specs.Clauses.{clauses}
 use Rattle.circuit.proofs.Covered.{clause_variables}
 use Rattle.circuit.proofs.Settled.{variables_settled}
-use Rattle.circuit.proofs.Models.{Agrees, model_is_repair}
+use Rattle.circuit.specs.Exact.{Agrees}
+use Rattle.circuit.proofs.Models.{model_is_repair}
 use Rattle.closure.specs.Closure.{Forced, Mark, Marks, unknown, known, mark_at, is_known, marked, closure}
 use Rattle.closure.specs.Numbered.{place, numbered_literal, numbered_clauses}
 use Rattle.closure.specs.Given.{Given, Within, Consistent}

@@ -4,8 +4,9 @@ pub use Rattle.std.specs.Prelude.{None as Unfound, Some as Cheapest}
 use Rattle.table.specs.Table.{Table}
 use Rattle.search.specs.declared.best.Passed.{Passed}
 use Rattle.search.specs.declared.best.Cut.{Cut}
-use Rattle.search.specs.declared.outcome.Outcome.{Outcome as Answer}
-use Rattle.search.specs.declared.outcome.Outcome.TheVariants.{Found, None, Spent}
+use Rattle.search.specs.declared.choices.Choices.{Choices}
+use Rattle.search.specs.declared.answer.Answer.{Answer}
+use Rattle.search.specs.declared.answer.Answer.TheVariants.{Found, None, Spent}
 use Rattle.search.specs.Search.{Best, unfound, find, Walked, passed, cut}
 use Rattle.search.specs.TableSearch.{list_of}
 
@@ -13,7 +14,7 @@ use Rattle.search.specs.TableSearch.{list_of}
 abbrev pub Held : Type 0
 Held = Option ℕ
 
--- where a part of the search has ended: passed with the cheapest find and the choices made, or cut with the choices
+-- where a part of the search has ended: passed with the cheapest find and the record of choices, or cut with the record
 abbrev pub Finished : Type 0
 Finished = Result Passed Cut
 
@@ -25,8 +26,8 @@ beats price (Cheapest least) = ltb price least
 
 -- the answer, with the number of settled steps that it carries
 abbrev pub finished : ℕ → Finished → Answer
-finished settled (Ok p) = elim p.best [ Unfound ↦ None p.made settled | Cheapest price ↦ Found price p.made settled ]
-finished settled (Err c) = Spent c.made settled
+finished settled (Ok p) = elim p.best [ Unfound ↦ None p.choices.made settled | Cheapest price ↦ Found price p.choices.made settled ]
+finished settled (Err c) = Spent c.choices.made settled
 
 -- the lent list afterwards, of e steps: the find stands at the front, and the rest stays
 abbrev pub written : ℕ → Finished → List ℕ → List ℕ → List ℕ
@@ -41,9 +42,13 @@ Stores T unfound (Cheapest q) bytes = ⊥
 Stores T (find m p) Unfound bytes = ⊥
 Stores T (find m p) (Cheapest q) bytes = (q ≡ p) × (take (length T.steps) bytes ≡ list_of T m)
 
--- and so is where a part of the search has ended
-abbrev pub Gives : Table → Walked → List ℕ → Finished → Type 0
-Gives T (passed b c) bytes (Ok p) = Stores T b p.best bytes × (p.made ≡ c)
-Gives T (passed b c) bytes (Err d) = ⊥
-Gives T (cut c) bytes (Ok p) = ⊥
-Gives T (cut c) bytes (Err d) = d.made ≡ c
+-- a record of so many choices, under this cap
+abbrev pub Records : ℕ → ℕ → Choices → Type 0
+Records cap c choices = (choices.made ≡ c) × (choices.cap ≡ cap)
+
+-- and so is where a part of the search has ended: the record handed back has its choices, under the cap that it had
+abbrev pub Gives : Table → ℕ → Walked → List ℕ → Finished → Type 0
+Gives T cap (passed b c) bytes (Ok p) = Stores T b p.best bytes × Records cap c p.choices
+Gives T cap (passed b c) bytes (Err d) = ⊥
+Gives T cap (cut c) bytes (Ok p) = ⊥
+Gives T cap (cut c) bytes (Err d) = Records cap c d.choices

@@ -1,12 +1,19 @@
--- What the search of a table promises, in one record: which answer it gives, with which list, price and counts, under every cap.
-use Rattle.std.specs.Prelude.{ℕ, suc, ◌^◌, ◌-◌, ◌≤◌, ◌<◌, ◌≡◌, ◌↔◌, List, [], length}
+-- What the search of a table promises, in one record: which answer it gives, with which list, price and counts, under
+-- every cap; and that the closure that it computes is the smallest set that the clauses force.
+use Rattle.std.specs.Prelude.{ℕ, suc, ◌^◌, ◌-◌, ◌≤◌, ◌<◌, ◌≡◌, ◌↔◌, Bool, length}
+use mathlib.Core.List.{List, [], Memᴰ}
 use Rattle.table.specs.Table.{Table}
 use Rattle.ctl.specs.Kept.{Repair}
 use Rattle.ctl.specs.Rank.{Cheapest}
 use Rattle.ctl.specs.Price.{list_price}
-use Rattle.closure.specs.Closure.{Marks}
+use Rattle.circuit.specs.Logic.{Literal}
+use Rattle.circuit.specs.Variables.{step}
+use Rattle.circuit.specs.Clauses.{clauses}
+use Rattle.closure.specs.Closure.{Forced, Fails, Marks, mark_at, known, clash, marked}
+use Rattle.closure.specs.Inside.{literal}
 use Rattle.closure.specs.Settled.{SettledCount}
 use Rattle.search.specs.Search.{Outcome, found, none, spent}
+use Rattle.search.specs.Fine.{Fine, closure_of, step_literals}
 use Rattle.search.specs.TableSearch.{search_under, search_free, list_of}
 
 -- the choices that an answer carries
@@ -34,3 +41,10 @@ pub record SearchIsRight (T : Table) : Type 0 where
   pub few_choices : choices (search_free T) ≤ 2 ^ suc (length T.steps) - 2
   -- under a cap and without one: how many steps the closure of nothing settles
   pub settled_exact : SettledCount T [] (settled (search_free T))
+  -- the closure of what is chosen, as it is computed, is the smallest set of the table's clauses: it fails exactly when
+  -- that does, and else marks a step exactly where that has the step's literal
+  pub closure_fails : (P : List (Literal ℕ)) → Fine (length T.steps) P
+      → (closure_of T P ≡ clash) ↔ Fails (clauses T) (λ l. Memᴰ l (step_literals P))
+  pub closure_holds : (P : List (Literal ℕ)) → Fine (length T.steps) P → (m : Marks) (new : Bool)
+      → closure_of T P ≡ marked m new → (j : ℕ) (sign : Bool) → j < length T.steps
+      → (mark_at m j ≡ known sign) ↔ Forced (clauses T) (λ l. Memᴰ l (step_literals P)) (literal sign (step j))

@@ -24,10 +24,10 @@ pub data Outcome : Type 0 where
   none spent : ℕ → ℕ → Outcome
 
 -- "After the last failure the cheapest find is the answer, or none where there was no find."
-abbrev pub answer_of : ℕ → Walked → Outcome
-answer_of settled (passed unfound c) = none c settled
-answer_of settled (passed (find m price) c) = found m price c settled
-answer_of settled (cut c) = spent c settled
+abbrev pub outcome_of : ℕ → Walked → Outcome
+outcome_of settled (passed unfound c) = none c settled
+outcome_of settled (passed (find m price) c) = found m price c settled
+outcome_of settled (cut c) = spent c settled
 
 -- whether no further choice may be made at this count: at the cap, or never
 abbrev pub capped : ℕ → ℕ → Bool
@@ -68,4 +68,4 @@ module _ (at_cap : ℕ → Bool) (close : List (Literal ℕ) → Progress) (pric
 
   -- the search; the steps are the variables below their number
   unfoldable pub search : List ℕ → Outcome
-  search steps = answer_of (settled_below (length steps) (close [])) (walk_all steps)
+  search steps = outcome_of (settled_below (length steps) (close [])) (walk_all steps)

@@ -1,4 +1,4 @@
-// The choice count: how many choices were made, and how many may be.
+// The record of choices: how many were made, and how many may be.
 ghost use Rattle.std.specs.Prelude.{◌≡◌, ◌≤◌};
 ghost use Rattle.search.specs.Counted.{counted};
 
@@ -10,7 +10,7 @@ pub struct Choices {
 }
 
 impl Choices {
-    // The count with one more; none at the cap.
+    // The record with one choice more; none at the cap.
     pub fn step(self) -> Option<Choices>
         requires { self.made ≤ self.cap }
         ensures { result ≡ counted self }

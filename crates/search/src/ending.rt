@@ -3,8 +3,8 @@ ghost use Rattle.std.specs.Prelude.{◌≡◌, ◌≤◌, length};
 ghost use Rattle.table.specs.Table.{table_of};
 ghost use Rattle.search.specs.Finds.{finished, written};
 
+use crate::answer::Answer;
 use crate::best::{Cut, Passed};
-use crate::outcome::Outcome;
 use table::Accepted;
 
 // The cheapest find is written, where there is one and the cap was not reached. The caller's list may be longer than the steps; that it is long
@@ -15,20 +15,30 @@ pub fn finish(
     settled: u32,
     find: &[u8],
     list: &mut [u8],
-) -> Outcome
+) -> Answer
     requires { (length (table_of table.now.bytes.now).steps ≤ length find.now) × (length (table_of table.now.bytes.now).steps ≤ length list.old) }
     ensures value { result ≡ finished settled walked }
     ensures list_after { list.new ≡ written (length (table_of table.now.bytes.now).steps) walked find.now list.old }
 {
     match walked {
         Ok(passed) => match passed.best {
-            None => Outcome::None(passed.made, settled),
+            None => Answer::None {
+                choices: passed.choices.made,
+                settled,
+            },
             Some(price) => {
                 let e = table.step_count();
                 list[..e].copy_from_slice(&find[..e]);
-                Outcome::Found(price, passed.made, settled)
+                Answer::Found {
+                    price,
+                    choices: passed.choices.made,
+                    settled,
+                }
             }
         },
-        Err(cut) => Outcome::Spent(cut.made, settled),
+        Err(cut) => Answer::Spent {
+            choices: cut.choices.made,
+            settled,
+        },
     }
 }

@@ -55,17 +55,15 @@ pub fn write_list(table: &Accepted<'_>, rows: &[u32; 130], list: &mut [u8])
     }
 }
 
-// The rows with step j kept, or struck.
+// Chooses step j in the rows, kept or struck.
 #[tactic(auto, using(crate::proofs::StepEnds::from_below))]
-pub fn with_step(table: &Accepted<'_>, rows: &[u32; 130], j: usize, kept: bool) -> [u32; 130]
+pub fn choose_step(table: &Accepted<'_>, rows: &mut [u32; 130], j: usize, kept: bool)
     requires { j < length (table_of table.now.bytes.now).steps }
-    ensures { result ≡ with_step (table_of table.now.bytes.now) rows.now kept j }
+    ensures { rows.new ≡ with_step (table_of table.now.bytes.now) rows.old kept j }
 {
     let x = table.step(j);
     let at = word_of(x.from, kept);
-    let mut next = *rows;
-    next[at] = sets::insert(rows[at], x.to);
-    next
+    rows[at] = sets::insert(rows[at], x.to);
 }
 
 // The state whose steps that changes, as a set.

@@ -5,3 +5,4 @@ pub mod FieldExact
 pub mod Lines
 pub mod Whole
 pub mod Times
+pub mod Readings

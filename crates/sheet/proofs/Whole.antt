@@ -30,7 +30,7 @@ module _ {A : Type 0} (names : List ℕ) (p : Parser A) (P : A → Type 0) (f : 
 regroup : (a b c d : List ℕ) → a ++ (b ++ (c ++ (d ++ []))) ≡ a ++ b ++ c ++ d
 regroup a b c d = simp (append_assoc, append-nil)
 
-none_some : (v : Sheet) → none ≡ some v → ⊥
+pub none_some : (v : Sheet) → none ≡ some v → ⊥
 none_some v e = let z : ◌≡◌ {A = ℕ} 0 1 = cc in omega arith
 
 Parts : Sheet → Type 0

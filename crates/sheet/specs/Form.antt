@@ -1,4 +1,4 @@
--- 01, "The sheet", with the prices of 02, A4: which bytes are a sheet. A sheet is the rendering of values that are each in their range.
+-- Which bytes are a sheet. A sheet is the rendering of values that are each in their range.
 use Rattle.std.specs.Prelude.{ℕ, zero, suc, ◌+◌, ◌/◌, ◌%◌, ◌≤◌, ◌≡◌, true, false, List, [], ◌∷◌, ◌++◌, ltb, length}
 use Prim.Native.Char.{code}
 use Prim.Native.String.{String, [] as empty, ◌∷◌ as ◌followed-by◌}

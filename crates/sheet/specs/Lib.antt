@@ -1,3 +1,4 @@
 pub mod Form
 pub mod Parse
 pub mod Reading
+pub mod OneReading

@@ -52,6 +52,12 @@ module _ {ℓ} {A : Type ℓ} (p : A → Bool) where
   none_at (x ∷ xs) d e zero h = (or_neither (p x) (any p xs) e).0
   none_at (x ∷ xs) d e (suc i) h = none_at xs d (or_neither (p x) (any p xs) e).1 i (le_of_suc-le-suc h)
 
+  -- a test that fails at each index is passed by no element
+  pub at_none : (xs : List A) (d : A) → ((i : ℕ) → i < length xs → p (get_or xs i d) ≡ false) → any p xs ≡ false
+  unfolding any
+  at_none [] d f = refl
+  at_none (x ∷ xs) d f = ap₂ ◌||◌ (f zero (zero-lt-suc (length xs))) (at_none xs d (λ i h. f (suc i) (suc-le-suc h)))
+
   pub any_append : (xs ys : List A) → any p (xs ++ ys) ≡ any p xs || any p ys
   unfolding any
   any_append [] ys = refl
@@ -74,6 +80,16 @@ distinct_at (x ∷ xs) d e zero (suc j) l h =
     none_at (same_step x) xs d (not-true (any (same_step x) xs) (and_parts (not (any (same_step x) xs)) (distinct xs) e).0) j (le_of_suc-le-suc h)
 distinct_at (x ∷ xs) d e (suc i) (suc j) l h =
     distinct_at xs d (and_parts (not (any (same_step x) xs)) (distinct xs) e).1 i j (le_of_suc-le-suc l) (le_of_suc-le-suc h)
+
+-- and back
+pub at_distinct : (xs : List Step) (d : Step) → ((i j : ℕ) → i < j → j < length xs → same_step (get_or xs i d) (get_or xs j d) ≡ false)
+    → distinct xs ≡ true
+unfolding distinct
+at_distinct [] d f = refl
+at_distinct (x ∷ xs) d f =
+    parts_and (not (any (same_step x) xs)) (distinct xs)
+    (ap not (at_none (same_step x) xs d (λ j h. f zero (suc j) (zero-lt-suc j) (suc-le-suc h))))
+    (at_distinct xs d (λ i j l h. f (suc i) (suc j) (suc-le-suc l) (suc-le-suc h)))
 
 regroup : (a b s t : Bool) → not (a || (s || false)) && (b && not t) ≡ not a && b && not (s || t)
 regroup true b s t = refl
@@ -100,3 +116,13 @@ nodes_fit_at p k (x ∷ xs) d e zero h =
 nodes_fit_at p k (x ∷ xs) d e (suc i) h =
     subst (λ (n : ℕ). node_fits p n (get_or xs i d) ≡ true) (omega arith)
     (nodes_fit_at p (suc k) xs d (and_parts (node_fits p k x) (nodes_fit p (suc k) xs) e).1 i (le_of_suc-le-suc h))
+
+-- and back
+pub at_nodes_fit : (p k : ℕ) (xs : List Node) (d : Node) → ((i : ℕ) → i < length xs → node_fits p (k + i) (get_or xs i d) ≡ true)
+    → nodes_fit p k xs ≡ true
+unfolding nodes_fit
+at_nodes_fit p k [] d f = refl
+at_nodes_fit p k (x ∷ xs) d f =
+    parts_and (node_fits p k x) (nodes_fit p (suc k) xs)
+    (subst (λ (n : ℕ). node_fits p n x ≡ true) (add-zero k) (f zero (zero-lt-suc (length xs))))
+    (at_nodes_fit p (suc k) xs d (λ i h. subst (λ (n : ℕ). node_fits p n (get_or xs i d) ≡ true) (omega arith) (f (suc i) (suc-le-suc h))))

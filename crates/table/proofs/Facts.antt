@@ -1,11 +1,11 @@
 -- What every accepted table has, and that a record read from a section is the table's record.
 use Prim.Native.Nat.{ℕ, ◌*◌, ◌^◌, ◌≤◌, ◌<◌}
-use mathlib.Core.Path.{◌≡◌, refl, sym, ap, subst, ◌∙◌}
+use mathlib.Core.Path.{◌≡◌, refl, sym, ap, ◌∙◌}
 use mathlib.Core.Bool.{true}
 use mathlib.Core.List.{List}
-use native.Mathlib.Nat.{zero-add, min-le_left}
+use native.Mathlib.Nat.{min-le_left}
 use native.Mathlib.Omega.{arith}
-use borrow.Author.Tests.{leb-true, ltb-true, eqb-true}
+use borrow.Author.Tests.{eqb-true}
 use lib.Dec.{leb}
 use lib.ListN.{length, take, drop, length-take}
 use Rattle.table.specs.declared.counts.Counts.{Counts}
@@ -15,11 +15,11 @@ use Rattle.table.specs.declared.refusal.Refusal.TheVariants.{Length}
 use Rattle.std.specs.Prelude.{Ok}
 use Rattle.table.specs.Verdict.{require}
 use Rattle.table.specs.Table.{Table, table_of, counts_of, packed_length, header_width, record_width, state_width, step_width, node_width, states_part, steps_part, nodes_part, state_of, step_of, node_of, zero_state, state_at, step_at, node_at}
-use Rattle.table.specs.Accept.{all, any, distinct, counts_fit, state_fits, is_initial, step_fits, node_fits, nodes_fit, records_verdict, table_verdict}
-use Rattle.table.specs.Facts.{Wellformed, Packed}
-use Rattle.table.proofs.Bools.{and_parts}
+use Rattle.table.specs.Accept.{all, any, distinct, counts_fit, state_fits, is_initial, step_fits, nodes_fit, records_verdict, table_verdict}
+use Rattle.table.specs.Facts.{Wellformed, Packed, NoStepTwice, NodesFit}
+use Rattle.table.specs.Refused.{CountsFit, StatesFit, SomeInitial, EndsAreStates}
 use Rattle.table.proofs.Records.{records-length, records_at, record_anywhere}
-use Rattle.table.proofs.All.{all_at, any_at, distinct_at, nodes_fit_at}
+use Rattle.table.proofs.Decided.{counts_decided, state_decided, step_decided, states_decided, initial_decided, ends_decided, distinct_decided, nodes_decided}
 use Rattle.table.proofs.Verdicts.{then_accepted, require_accepted}
 
 -- the record that a section has at a number below the count is the table's record of that number
@@ -53,41 +53,19 @@ module _ (bytes : List ℕ) (k : Counts) (e : k ≡ counts_of bytes) where
   pub nodes_are : k.nodes ≡ length (table_of bytes).nodes
   nodes_are = ap (λ (c : Counts). c.nodes) e ∙ sym (records-length node_of node_width (counts_of bytes).nodes (nodes_part bytes))
 
--- 3, as bounds on n, e, f and p
-pub record Within (n e f p : ℕ) : Type 0 where
-  pub some_state : 1 ≤ n
-  pub few_states : n ≤ 32
-  pub few_steps : e ≤ 128
-  pub some_node : 1 ≤ f
-  pub few_nodes : f ≤ 32
-  pub few_props : p ≤ 16
-
 -- counts that fit are within their bounds
-pub counts_within : (c : Counts) → counts_fit c ≡ true → Within c.states c.steps c.nodes c.props
-counts_within c e =
-    let p = and_parts _ _ e in
-    let f = and_parts _ _ p.0 in
-    let g = and_parts _ _ f.0 in
-    let s = and_parts _ _ g.0 in
-    let n = and_parts _ _ s.0 in
-    record {
-      some_state = leb-true _ _ n.0;
-      few_states = leb-true _ _ n.1;
-      few_steps = leb-true _ _ s.1;
-      some_node = leb-true _ _ g.1;
-      few_nodes = leb-true _ _ f.1;
-      few_props = leb-true _ _ p.1;
-    }
+pub counts_within : (c : Counts) → counts_fit c ≡ true → CountsFit c
+counts_within c = (counts_decided c).0
 
--- 4: what a state that fits has
+-- what a state that fits has
 pub state_within : (p : ℕ) (x : State) → state_fits p x ≡ true → (x.initial ≤ 1) × (x.label < 2 ^ p)
-state_within p x e = let a = and_parts _ _ e in (leb-true _ _ a.0, ltb-true _ _ a.1)
+state_within p x = (state_decided p x).0
 
--- 6: what a step that fits has
+-- what a step that fits has
 pub step_within : (n : ℕ) (x : Step) → step_fits n x ≡ true → (x.from < n) × (x.to < n)
-step_within n x e = let a = and_parts _ _ e in (ltb-true _ _ a.0, ltb-true _ _ a.1)
+step_within n x = (step_decided n x).0
 
--- 2 and 3: the counts of accepted bytes fit, their length is the one that the counts say, and their records are accepted
+-- the counts of accepted bytes fit, their length is the one that the counts say, and their records are accepted
 pub header_accepted : (bytes : List ℕ) → table_verdict bytes ≡ Ok tt
     → (counts_fit (counts_of bytes) ≡ true) × (length bytes ≡ packed_length (counts_of bytes)) × (records_verdict (table_of bytes) ≡ Ok tt)
 unfolding table_verdict
@@ -97,7 +75,7 @@ header_accepted bytes e =
     let c = then_accepted _ _ b.1 in
     (require_accepted _ _ b.0, eqb-true _ _ (require_accepted _ _ c.0), c.1)
 
--- 4 to 8: of accepted records every test holds
+-- of accepted records every test holds
 pub records_accepted : (T : Table) → records_verdict T ≡ Ok tt
     → (all (state_fits T.props) T.states ≡ true)
     × (any is_initial T.states ≡ true)
@@ -111,28 +89,33 @@ records_accepted T e =
     let j = then_accepted _ _ b.0 in
     (require_accepted _ _ s.0, require_accepted _ _ s.1, require_accepted _ _ j.0, require_accepted _ _ j.1, require_accepted _ _ b.1)
 
+-- a table of counts within the bounds
+abbrev pub CountsOfTable : Table → Type 0
+CountsOfTable T = CountsFit (record { states = length T.states; steps = length T.steps; nodes = length T.nodes; props = T.props })
+
+-- records that pass each test have the facts of a table
+pub wellformed_by : (T : Table) → CountsOfTable T → StatesFit T → SomeInitial T → EndsAreStates T → NoStepTwice T → NodesFit T → Wellformed T
+wellformed_by T w states initial ends once nodes = record {
+  some_state = w.some_state;
+  few_states = w.few_states;
+  few_steps = w.few_steps;
+  some_node = w.some_node;
+  few_nodes = w.few_nodes;
+  few_props = w.few_props;
+  initial_bit = λ s h. (states s h).0;
+  label_below = λ s h. (states s h).1;
+  some_initial = initial;
+  from_state = λ j h. (ends j h).0;
+  to_state = λ j h. (ends j h).1;
+  no_repeat = once;
+  each_node_fits = nodes;
+}
+
 -- records within the bounds that are accepted have the facts of a table
-pub wellformed : (T : Table) → Within (length T.states) (length T.steps) (length T.nodes) T.props → records_verdict T ≡ Ok tt → Wellformed T
+pub wellformed : (T : Table) → CountsOfTable T → records_verdict T ≡ Ok tt → Wellformed T
 wellformed T w e =
     let t = records_accepted T e in
-    let state : (s : ℕ) → s < length T.states → state_fits T.props (state_at T s) ≡ true = all_at _ T.states _ t.0 in
-    let initial = any_at is_initial T.states zero_state t.1 in
-    let step : (j : ℕ) → j < length T.steps → step_fits (length T.states) (step_at T j) ≡ true = all_at _ T.steps _ t.2 in
-    record {
-      some_state = w.some_state;
-      few_states = w.few_states;
-      few_steps = w.few_steps;
-      some_node = w.some_node;
-      few_nodes = w.few_nodes;
-      few_props = w.few_props;
-      initial_bit = λ s h. (state_within T.props (state_at T s) (state s h)).0;
-      label_below = λ s h. (state_within T.props (state_at T s) (state s h)).1;
-      some_initial = (initial.0, initial.1, eqb-true _ _ initial.2);
-      from_state = λ j h. (step_within (length T.states) (step_at T j) (step j h)).0;
-      to_state = λ j h. (step_within (length T.states) (step_at T j) (step j h)).1;
-      no_repeat = distinct_at T.steps _ t.3;
-      each_node_fits = λ i h. subst (λ (k : ℕ). node_fits T.props k (node_at T i) ≡ true) (zero-add i) (nodes_fit_at T.props 0 T.nodes _ t.4 i h);
-    }
+    wellformed_by T w ((states_decided T).0 t.0) ((initial_decided T).0 t.1) ((ends_decided T).0 t.2) ((distinct_decided T).0 t.3) ((nodes_decided T).0 t.4)
 
 -- accepted bytes have the facts of a packed table
 pub accepted : (bytes : List ℕ) → table_verdict bytes ≡ Ok tt → Packed bytes

@@ -10,5 +10,7 @@ pub mod Past
 pub mod Scan
 pub mod Rows
 pub mod TargetSets
+pub mod Decided
 pub mod Facts
+pub mod Refused
 pub mod FixpointKind

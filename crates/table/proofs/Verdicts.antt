@@ -1,6 +1,6 @@
 -- What an accepting verdict says of the tests that it was made of, and back.
 use Prim.Native.Nat.{ℕ}
-use mathlib.Core.Path.{◌≡◌, refl, sym}
+use mathlib.Core.Path.{◌≡◌, refl, sym, ap}
 use mathlib.Core.Bool.{Bool, true, false, false≢true}
 use native.Mathlib.Omega.{arith}
 use Rattle.table.specs.declared.refusal.Refusal.{Refusal}
@@ -37,3 +37,22 @@ then_refused (Err q) w r e = refl
 pub then_next : (v w : Verdict) → v ≡ Ok tt → v then w ≡ w
 then_next (Ok tt) w e = refl
 then_next (Err q) w e = absurd (refused q e)
+
+-- three verdicts may be joined either way
+pub then_assoc : (u v w : Verdict) → (u then v) then w ≡ u then (v then w)
+then_assoc (Ok tt) v w = refl
+then_assoc (Err r) v w = refl
+
+abbrev refusal_in : Verdict → Refusal → Refusal
+refusal_in (Ok tt) r = r
+refusal_in (Err q) r = q
+
+-- where a test and what is asked after it refuse, either the test fails and the refusal is its own, or it holds and what comes after refuses
+pub first_test : {G : Type 0} (q r : Refusal) (b : Bool) (w : Verdict) → require q b then w ≡ Err r → (b ≡ false → q ≡ r → G) → (b ≡ true → w ≡ Err r → G) → G
+first_test q r true w e here later = later refl e
+first_test q r false w e here later = here refl (ap (λ (v : Verdict). refusal_in v r) e)
+
+-- the same of the last test
+pub last_test : (q r : Refusal) (b : Bool) → require q b ≡ Err r → (b ≡ false) × (q ≡ r)
+last_test q r true e = absurd (refused r (sym e))
+last_test q r false e = (refl, ap (λ (v : Verdict). refusal_in v r) e)

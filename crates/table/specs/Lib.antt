@@ -1,9 +1,12 @@
 pub mod Verdict
+pub mod RefusalText
 pub mod Buffer
 pub mod Table
 pub mod Accept
 pub mod Family
 pub mod Operator
 pub mod Facts
+pub mod Refused
+pub mod From
 pub mod Rows
 pub mod StateSets

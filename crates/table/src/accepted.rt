@@ -3,11 +3,13 @@ ghost use Rattle.std.specs.Prelude.{◌≡◌, ℕ, ◌<◌, Ok, length};
 ghost use Rattle.table.specs.Table.{counts_of, states_part, steps_part, nodes_part, table_of, state_at, step_at, node_at};
 ghost use Rattle.table.specs.Accept.{table_verdict};
 
+use crate::check::check_table;
 use crate::counts::{Counts, counts_of};
 use crate::record::{Node, State, Step, record_at};
-use crate::section::sections_of;
+use crate::refusal::Refusal;
+use crate::section::{node_section, state_section, step_section};
 
-// Whoever is handed one need not ask again whether the table is accepted. The sections stand here one by one: in `Sections`, each use would name that first.
+/// Whoever is handed one need not ask again whether the table is accepted. It comes by `try_from` alone.
 #[derive(Clone, Copy)]
 pub struct Accepted<'a> {
     pub bytes: &'a [u8],
@@ -23,21 +25,26 @@ pub struct Accepted<'a> {
     pub ghost prices_are_bytes: { (j : ℕ) → (step_at (table_of bytes.now) j).price < 256 },
 }
 
-impl<'a> Accepted<'a> {
-    pub fn new(bytes: &'a [u8]) -> Accepted<'a>
-        requires { table_verdict bytes.now ≡ Ok tt }
-        ensures { result.bytes.now ≡ bytes.now }
-    {
-        let sections = sections_of(bytes);
-        Accepted {
+impl<'a> TryFrom<&'a [u8]> for Accepted<'a> {
+    type Error = Refusal;
+
+    ghost use Rattle.table.specs.From.{AcceptedFrom};
+
+    ghost try_from_gives = { λ bytes r. AcceptedFrom bytes.now r };
+
+    fn try_from(bytes: &'a [u8]) -> Result<Accepted<'a>, Refusal> {
+        check_table(bytes)?;
+        Ok(Accepted {
             bytes,
             counts: counts_of(bytes),
-            states: sections.states,
-            steps: sections.steps,
-            nodes: sections.nodes,
-        }
+            states: state_section(bytes),
+            steps: step_section(bytes),
+            nodes: node_section(bytes),
+        })
     }
+}
 
+impl<'a> Accepted<'a> {
     pub fn state_count(&self) -> usize
         ensures { result ≡ length (table_of self.now.bytes.now).states }
     {

@@ -1,6 +1,7 @@
 // The four counts that a packed table begins with.
 ghost use Rattle.std.specs.Prelude.{◌≡◌, ◌<◌};
 ghost use Rattle.table.specs.Table.{counts_of, packed_length};
+ghost use Rattle.table.specs.Accept.{counts_fit};
 
 use crate::part::byte_at;
 use crate::width::{HEADER_WIDTH, RECORD_WIDTH};
@@ -30,4 +31,16 @@ pub fn packed_length(c: Counts) -> usize
     ensures { result ≡ packed_length c }
 {
     HEADER_WIDTH + RECORD_WIDTH * c.states + RECORD_WIDTH * c.steps + RECORD_WIDTH * c.nodes
+}
+
+/// Whether each count is in its range.
+pub fn counts_fit(c: Counts) -> bool
+    ensures { result ≡ counts_fit c }
+{
+    1 <= c.states
+        && c.states <= 32
+        && c.steps <= 128
+        && 1 <= c.nodes
+        && c.nodes <= 32
+        && c.props <= 16
 }

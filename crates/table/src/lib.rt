@@ -1,24 +1,31 @@
-// The packed table: its counts, sections and records, and the numbers of the refusals. Knows nothing of what a formula means.
+// The packed table: its counts, sections and records, the tests of a table and of a list, and the refusals with their numbers. Knows
+// nothing of what a formula means.
 #![tactic(auto)]
 
 mod accepted;
+mod check;
 mod counts;
+mod list_check;
+mod node_check;
 mod operator;
 mod part;
 mod record;
 mod refusal;
 mod section;
 mod shape;
+mod state_check;
 mod state_sets;
+mod step_check;
 mod targets;
 mod width;
 
 pub use accepted::Accepted;
 pub use counts::{Counts, counts_of, packed_length};
+pub use list_check::check_list;
 pub use operator::{Family, Operator, Quantifier, family_of, second_child};
 pub use record::{Node, State, Step, record_at};
 pub use refusal::{Refusal, verdict_number};
-pub use section::{Sections, sections_of};
+pub use section::{node_section, state_section, step_section};
 pub use shape::{Shape, shape_of};
 pub use state_sets::{initial_states, labelled_states};
 pub use targets::target_sets;

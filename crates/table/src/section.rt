@@ -1,5 +1,5 @@
-// The sections of a packed table, as parts of the caller's slice. Whoever goes through one is handed its count too: of any bytes a section may be cut
-// short, and what is missing reads as zeros.
+// The sections of a packed table, each as a part of the caller's slice. Whoever goes through one is handed its count too: of any bytes
+// a section may be cut short, and what is missing reads as zeros.
 ghost use Rattle.std.specs.Prelude.{◌≡◌};
 ghost use Rattle.table.specs.Table.{states_part, steps_part, nodes_part};
 
@@ -7,25 +7,31 @@ use crate::counts::counts_of;
 use crate::part::part_of;
 use crate::width::{HEADER_WIDTH, RECORD_WIDTH};
 
-#[derive(Clone, Copy)]
-pub struct Sections<'a> {
-    pub states: &'a [u8],
-    pub steps: &'a [u8],
-    pub nodes: &'a [u8],
-}
-
-// Of any bytes: what is missing is left out.
-pub fn sections_of(table: &[u8]) -> Sections<'_>
-    ensures states { result.states.now ≡ states_part table.now }
-    ensures steps { result.steps.now ≡ steps_part table.now }
-    ensures nodes { result.nodes.now ≡ nodes_part table.now }
+/// The bytes of the state records.
+pub fn state_section(table: &[u8]) -> &[u8]
+    ensures { result.now ≡ states_part table.now }
 {
     let c = counts_of(table);
-    let steps = HEADER_WIDTH + RECORD_WIDTH * c.states;
-    let nodes = steps + RECORD_WIDTH * c.steps;
-    Sections {
-        states: part_of(table, HEADER_WIDTH, RECORD_WIDTH * c.states),
-        steps: part_of(table, steps, RECORD_WIDTH * c.steps),
-        nodes: part_of(table, nodes, RECORD_WIDTH * c.nodes),
-    }
+    part_of(table, HEADER_WIDTH, RECORD_WIDTH * c.states)
+}
+
+/// The bytes of the step records.
+pub fn step_section(table: &[u8]) -> &[u8]
+    ensures { result.now ≡ steps_part table.now }
+{
+    let c = counts_of(table);
+    part_of(
+        table,
+        HEADER_WIDTH + RECORD_WIDTH * c.states,
+        RECORD_WIDTH * c.steps,
+    )
+}
+
+/// The bytes of the node records.
+pub fn node_section(table: &[u8]) -> &[u8]
+    ensures { result.now ≡ nodes_part table.now }
+{
+    let c = counts_of(table);
+    let start = HEADER_WIDTH + RECORD_WIDTH * c.states + RECORD_WIDTH * c.steps;
+    part_of(table, start, RECORD_WIDTH * c.nodes)
 }

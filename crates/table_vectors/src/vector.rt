@@ -1,7 +1,8 @@
 // Reading a line of the input and running it.
 use crate::count::Tally;
 use crate::text::{bytes_of, number_of};
-use table::Refusal;
+use circuit::variable_count;
+use table::{Accepted, Refusal, verdict_number};
 
 // What the bytes of a line are.
 #[derive(Clone, Copy)]
@@ -19,9 +20,6 @@ fn kind_of(name: &[u8]) -> Option<Kind> {
     }
 }
 
-// What a table's line that has no count is held to: more than V of any accepted table.
-const NO_COUNT: usize = 1000000;
-
 // The kind, the expected number, and the count where there is one.
 #[derive(Clone, Copy)]
 struct Expected {
@@ -30,12 +28,15 @@ struct Expected {
     count: Option<usize>,
 }
 
-// The check, and of an accepted table its variables.
+// The check, and of an accepted table its variables. Where the line has no count of them, they do not agree.
 fn run_table(t: &mut Tally, e: Expected, table: &[u8]) -> Option<()> {
-    let number = table::verdict_number(accept::check_table(table));
-    t.add_vector(e.number, number as usize == e.number)?;
+    let verdict = Accepted::try_from(table);
+    t.add_vector(e.number, verdict_number(verdict) as usize == e.number)?;
     if e.number == 0 {
-        t.add_variables(circuit::variable_count(table) == e.count.unwrap_or(NO_COUNT));
+        t.add_variables(match verdict {
+            Ok(accepted) => Some(variable_count(&accepted)) == e.count,
+            Err(_) => false,
+        });
     }
     Some(())
 }
@@ -43,10 +44,10 @@ fn run_table(t: &mut Tally, e: Expected, table: &[u8]) -> Option<()> {
 // No list is of the form where there is no count of steps.
 fn run_list(t: &mut Tally, e: Expected, list: &[u8]) -> Option<()> {
     let verdict = match e.count {
-        Some(steps) => accept::check_list(list, steps),
+        Some(steps) => table::check_list(list, steps),
         None => Err(Refusal::ListForm),
     };
-    let number = table::verdict_number(verdict);
+    let number = verdict_number(verdict);
     t.add_vector(e.number, number as usize == e.number)
 }
 

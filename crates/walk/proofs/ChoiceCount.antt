@@ -5,7 +5,7 @@ use mathlib.Core.Path.{◌≡◌, refl}
 use mathlib.Core.Bool.{Bool, true, false}
 use lib.Dec.{eqb}
 use Rattle.search.specs.declared.choices.Choices.{Choices}
-use Rattle.std.specs.Prelude.{Some}
+use Rattle.std.specs.Prelude.{Some, None}
 use Rattle.search.specs.Counted.{counted_if, counted}
 
 module _ (c : Choices) where
@@ -15,3 +15,10 @@ module _ (c : Choices) where
       go : (b : Bool) → Some d ≡ counted_if b c → (b ≡ false) × (d ≡ record { made = c.made + 1; cap = c.cap })
       go true e = let z : ◌≡◌ {A = ℕ} 0 1 = cc in absurd (omega arith)
       go false e = (refl, cc)
+
+  pub counted_none : None ≡ counted c → eqb c.made c.cap ≡ true
+  counted_none = go (eqb c.made c.cap)
+    where
+      go : (b : Bool) → None ≡ counted_if b c → b ≡ true
+      go true e = refl
+      go false e = let z : ◌≡◌ {A = ℕ} 0 1 = cc in absurd (omega arith)

@@ -1,5 +1,5 @@
 -- Where the search stands in the code, and what its functions leave. P is what was chosen, and m the marks of its closure.
-use Rattle.std.specs.Prelude.{ℕ, suc, ◌≤◌, ◌<◌, ◌≡◌, Bool, true, false, ◌↔◌, List, length, drop, Option}
+use Rattle.std.specs.Prelude.{ℕ, suc, ◌≤◌, ◌<◌, ◌≡◌, Bool, true, false, ◌↔◌, List, ◌∷◌, length, drop, Option}
 use Rattle.table.specs.Table.{Table}
 use Rattle.ctl.specs.Levels.{below}
 use Rattle.circuit.specs.Logic.{Literal}
@@ -79,5 +79,10 @@ module _ (Stand : List (Literal ℕ) → Marks → Best → Type 0) where
   abbrev pub Somewhere : Type 0
   Somewhere = (P : List (Literal ℕ)) × (m : Marks) × (b : Best) × Stand P m b
 
-  abbrev pub GivesFrom : Table → (List (Literal ℕ) → Marks → Best → Walked) → List ℕ → Finished → Type 0
-  GivesFrom T from bytes r = (P : List (Literal ℕ)) (m : Marks) (b : Best) → Stand P m b → Gives T (from P m b) bytes r
+  -- what comes of choosing step j on top of that, kept or struck
+  abbrev pub ComesFrom : Table → Bool → ℕ → Held → Memory → List ℕ → Reached → Type 0
+  ComesFrom T sign j best M after r = (P : List (Literal ℕ)) (m : Marks) (b : Best) → Stand P m b
+      → Comes T best M after (record { sign = sign; var = j } ∷ P) b r
+
+  abbrev pub GivesFrom : Table → ℕ → (List (Literal ℕ) → Marks → Best → Walked) → List ℕ → Finished → Type 0
+  GivesFrom T cap from bytes r = (P : List (Literal ℕ)) (m : Marks) (b : Best) → Stand P m b → Gives T cap (from P m b) bytes r

@@ -1,5 +1,5 @@
 // What the closure of what was chosen comes to.
-ghost use Rattle.std.specs.Prelude.{◌≤◌, length};
+ghost use Rattle.std.specs.Prelude.{◌≡◌, false, ◌≤◌, length};
 ghost use Rattle.std.specs.Option.{ForSome};
 ghost use Rattle.closure.specs.Knowledge.{knowledge, Sized};
 ghost use Rattle.propagate.specs.Memory.{memory};
@@ -7,11 +7,11 @@ ghost use Rattle.events.specs.NetTable.{table_in};
 ghost use Rattle.closure.specs.Advance.{Founded};
 ghost use Rattle.events.specs.Watched.{RestBut};
 ghost use Rattle.walk.specs.KeptWords.{room_total};
-ghost use Rattle.walk.specs.Stands.{ComesOf, Reaches};
+ghost use Rattle.walk.specs.Stands.{GoesOn, Resting, Somewhere, ComesOf, ComesFrom, Reaches};
 
 use crate::parts::close_parts;
 use events::Net;
-use search::{lowest_unsettled, struck_price, undercuts, write_list};
+use search::{changed_by, choose_step, lowest_unsettled, struck_price, undercuts, write_list};
 
 // The cheapest find, or the lowest step left unsettled: no Result, for both are values to go on with, and neither is an error.
 #[derive(Clone, Copy)]
@@ -46,7 +46,7 @@ pub fn assess(
 }
 
 // Works out the closure, and what it comes to. Unless it begins afresh, all is at rest but what reads the steps out of the changed states.
-pub fn reach(
+fn reach(
     net: &Net<'_>,
     rows: &mut [u32; 130],
     best: Option<u32>,
@@ -62,4 +62,32 @@ pub fn reach(
 {
     let closed = close_parts(net, rows, words, changed);
     assess(net, rows, closed, best, find)
+}
+
+// Chooses step j, kept or struck, and works out the closure, and what it comes to. `fresh` says that no word of the levels
+// is known: an Option of the set of the state that changed, handed on in its place, would need a clause that it is that of
+// step j.
+pub fn choose(
+    net: &Net<'_>,
+    rows: &mut [u32; 130],
+    j: usize,
+    kept: bool,
+    best: Option<u32>,
+    find: &mut [u8; 128],
+    words: &mut [u32],
+    fresh: bool,
+) -> Reached
+    requires words_room { room_total (table_in net.now) ≤ length words.old }
+    requires resting { «fresh» ≡ false → Resting (table_in net.now) (memory rows.old words.old) }
+    requires somewhere { Somewhere (GoesOn (table_in net.now) j (memory rows.old words.old) best find.old) }
+    ensures { ComesFrom (GoesOn (table_in net.now) j (memory rows.old words.old) best find.old) (table_in net.now) kept j
+        best (memory rows.new words.new) find.new result }
+{
+    let changed = if fresh {
+        None
+    } else {
+        Some(changed_by(&net.table, j))
+    };
+    choose_step(&net.table, rows, j, kept);
+    reach(net, rows, best, find, words, changed)
 }

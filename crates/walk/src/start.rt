@@ -6,16 +6,16 @@ ghost use Rattle.closure.specs.Closes.{Closes, is_failed};
 ghost use Rattle.events.specs.NetTable.{table_in};
 ghost use Rattle.search.specs.Search.{unfound};
 ghost use Rattle.search.specs.TableSearch.{search_under};
-ghost use Rattle.search.specs.Answer.{outcome_of, list_after};
+ghost use Rattle.search.specs.Answer.{answer_of, list_after};
 ghost use Rattle.search.specs.Finds.{Gives};
 ghost use Rattle.walk.specs.KeptWords.{room_total};
 ghost use Rattle.walk.specs.Stands.{Resting, search_from};
 
 use crate::parts::close_parts;
 use crate::reach::{Reached, assess};
-use crate::tries::both_ways;
+use crate::tries::kept_try;
 use events::Net;
-use search::{Choices, Cut, Outcome, Passed, finish};
+use search::{Answer, Choices, Cut, Passed, finish};
 
 // The closure of nothing, with no step and no level known at first.
 fn close_nothing(net: &Net<'_>, rows: &mut [u32; 130], words: &mut [u32]) -> Option<u32>
@@ -42,20 +42,20 @@ fn walk_table(
     requires words_room { room_total (table_in net.now) ≤ length words.old }
     requires closes { Closes (table_in net.now) [] closed (memory rows.now words.old) }
     requires resting { is_failed closed ≡ false → Resting (table_in net.now) (memory rows.now words.old) }
-    ensures { Gives (table_in net.now) (search_from (table_in net.now) cap 0 [] unfound 0) find.new result }
+    ensures { Gives (table_in net.now) cap (search_from (table_in net.now) cap 0 [] unfound 0) find.new result }
 {
-    let count = Choices { made: 0, cap };
+    let choices = Choices { made: 0, cap };
     match assess(net, rows, closed, None, find) {
-        Reached::Ended(best) => Ok(Passed { best, made: 0 }),
-        Reached::Unsettled(j) => both_ways(net, rows, j, count, None, find, words),
+        Reached::Ended(best) => Ok(Passed { best, choices }),
+        Reached::Unsettled(j) => kept_try(net, rows, j, choices, None, find, words),
     }
 }
 
 // The answer under a cap. A found list is written to the front of `list`. All of the words may be used, and there has to be room for a closure.
-pub fn search_table(net: &Net<'_>, cap: u64, list: &mut [u8], words: &mut [u32]) -> Outcome
+pub fn search_table(net: &Net<'_>, cap: u64, list: &mut [u8], words: &mut [u32]) -> Answer
     requires words_room { room_total (table_in net.now) ≤ length words.old }
     requires list_room { length (table_in net.now).steps ≤ length list.old }
-    ensures value { result ≡ outcome_of (search_under (table_in net.now) cap) }
+    ensures value { result ≡ answer_of (search_under (table_in net.now) cap) }
     ensures list_after { list.new ≡ list_after (table_in net.now) (search_under (table_in net.now) cap) list.old }
     ensures words_len_unchanged { length words.new ≡ length words.old }
 {

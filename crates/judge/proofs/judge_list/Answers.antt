@@ -22,11 +22,12 @@ use Rattle.ctl.specs.Tests.{keeps_initial, leaves_reached, root_marked, judge_ve
 use Rattle.label.specs.declared.analysis.Analysis.{Analysis}
 use Rattle.label.specs.declared.room.Room.TheVariants.{Any}
 use Rattle.label.specs.Analysis.{analysis_verdict, analysis_of, sets_of}
-use Rattle.label.proofs.Order.{table_accepted}
-use Rattle.label.proofs.Ways.{way_refused, way_passed}
+use Rattle.label.proofs.Order.{table_refused_first, table_accepted}
+use Rattle.label.proofs.Ways.{analysis_moved, way_refused, way_passed}
 use Rattle.judge.specs.Reached.{Least}
 use Rattle.judge.proofs.Starts.{keeps_word, unreached_word, root_word}
 use Rattle.judge.proofs.ReachedStates.{reached_word}
+use Rattle.judge.proofs.Exact.{verdict_exact, verdict_refuses}
 use Rattle.judge.proofs.Order.{last_tests, judge_order}
 use Rattle.judge.proofs.judge_list.Goals as goal
 
@@ -77,35 +78,61 @@ module _ (table list : List ℕ) {a : Analysis} (way : Ok a ≡ analysis_of Any 
       root_left : x ≡ 0 → {y : ℕ} → y ≡ set_of 32 (λ t. member w t && not (member a.root t)) → {b : Bool} → eqb y 0 ≡ b → require RootFails b ≡ judge_verdict table list
       root_left all m told = sym (reached_left ∙ then_next _ _ (ap (require UnreachedStep) (eq-eqb x 0 all)) ∙ ap (require RootFails) (sym (root_marks _ m) ∙ told))
 
+pub returns-in_err-table : goal.returns-in_err-table
+returns-in_err-table c =
+    let t = c.args.table.now in
+    let l = c.args.list.now in
+    let r = c.in_err-table.field-0.0 in
+    let gives : c.from_residual.result ≡ Err r = search rules in
+    let refused = table_refused_first true t l r c.in_err-table.ensures.0 in
+    let told = gives ∙ sym (judge_order t l ∙ then_refused (analysis_verdict true t l) _ r refused ∙ refused) in
+    record { value = told; exact = verdict_exact t l _ told; refused = verdict_refuses t l _ told }
+
 pub returns-in_err-a : goal.returns-in_err-a
 returns-in_err-a c =
     let t = c.args.table.now in
     let l = c.args.list.now in
     let r = c.in_err-a.field-0.0 in
-    let gives : c.from_residual.result ≡ Err r = search rules in
-    let refused = way_refused Any t l r (sym c.in_err-a.was ∙ c.analyse.ensures) in
-    gives ∙ sym (judge_order t l ∙ then_refused (analysis_verdict true t l) _ r refused ∙ refused)
+    let gives : c.from_residual-in_err-a.result ≡ Err r = search rules in
+    let refused = way_refused Any t l r (sym c.in_err-a.was ∙ analysis_moved Any l _ t c.in_ok-table.ensures.0 _ c.analyse.ensures) in
+    let told = gives ∙ sym (judge_order t l ∙ then_refused (analysis_verdict true t l) _ r refused ∙ refused) in
+    record { value = told; exact = verdict_exact t l _ told; refused = verdict_refuses t l _ told }
 
 pub returns-then-starts-eq0 : goal.returns-then-starts-eq0
 returns-then-starts-eq0 c =
-    let way = sym c.in_ok-a.was ∙ c.analyse.ensures in
+    let t = c.args.table.now in
+    let l = c.args.list.now in
+    let way = sym c.in_ok-a.was ∙ analysis_moved Any l _ t c.in_ok-table.ensures.0 _ c.analyse.ensures in
     let refuses = ap (require NoInitialKept) (sym (keeps _ _ way c.intersection-starts.ensures) ∙ ap not (eq-eqb _ 0 c.if-starts-eq0.true)) in
-    sym (left _ _ way ∙ then_refused _ _ NoInitialKept refuses ∙ refuses)
+    let told = sym (left _ _ way ∙ then_refused _ _ NoInitialKept refuses ∙ refuses) in
+    record { value = told; exact = verdict_exact t l _ told; refused = verdict_refuses t l _ told }
 
 pub returns-then-minus-ne0 : goal.returns-then-minus-ne0
 returns-then-minus-ne0 c =
+    let t = c.args.table.now in
+    let l = c.args.list.now in
+    let way = sym c.in_ok-a.was ∙ analysis_moved Any l _ t c.in_ok-table.ensures.0 _ c.analyse.ensures in
     let refuses = ap (require UnreachedStep) (ne_eqb c.minus.result 0 c.if-minus-ne0.true) in
-    sym (
-    reached_left _ _ (sym c.in_ok-a.was ∙ c.analyse.ensures) c.intersection-starts.ensures c.if-starts-eq0.false c.reached_states-reached.ensures c.minus.ensures
+    let told = sym (
+    reached_left _ _ way c.intersection-starts.ensures c.if-starts-eq0.false c.reached_states-reached.ensures c.minus.ensures
     ∙ then_refused _ _ UnreachedStep refuses ∙ refuses
-    )
+    ) in
+    record { value = told; exact = verdict_exact t l _ told; refused = verdict_refuses t l _ told }
 
 pub returns-then-minus-ne0-2 : goal.returns-then-minus-ne0-2
 returns-then-minus-ne0-2 c =
-    root_left _ _ (sym c.in_ok-a.was ∙ c.analyse.ensures) c.intersection-starts.ensures c.if-starts-eq0.false c.reached_states-reached.ensures c.minus.ensures c.if-minus-ne0.false
-    c.minus-2.ensures (ne_eqb c.minus-2.result 0 c.if-minus-ne0-2.true)
+    let t = c.args.table.now in
+    let l = c.args.list.now in
+    let way = sym c.in_ok-a.was ∙ analysis_moved Any l _ t c.in_ok-table.ensures.0 _ c.analyse.ensures in
+    let told = root_left _ _ way c.intersection-starts.ensures c.if-starts-eq0.false c.reached_states-reached.ensures c.minus.ensures c.if-minus-ne0.false
+    c.minus-2.ensures (ne_eqb c.minus-2.result 0 c.if-minus-ne0-2.true) in
+    record { value = told; exact = verdict_exact t l _ told; refused = verdict_refuses t l _ told }
 
 pub returns : goal.returns
 returns c =
-    root_left _ _ (sym c.in_ok-a.was ∙ c.analyse.ensures) c.intersection-starts.ensures c.if-starts-eq0.false c.reached_states-reached.ensures c.minus.ensures c.if-minus-ne0.false
-    c.minus-2.ensures (eq-eqb c.minus-2.result 0 c.if-minus-ne0-2.false)
+    let t = c.args.table.now in
+    let l = c.args.list.now in
+    let way = sym c.in_ok-a.was ∙ analysis_moved Any l _ t c.in_ok-table.ensures.0 _ c.analyse.ensures in
+    let told = root_left _ _ way c.intersection-starts.ensures c.if-starts-eq0.false c.reached_states-reached.ensures c.minus.ensures c.if-minus-ne0.false
+    c.minus-2.ensures (eq-eqb c.minus-2.result 0 c.if-minus-ne0-2.false) in
+    record { value = told; exact = verdict_exact t l _ told; refused = tt }

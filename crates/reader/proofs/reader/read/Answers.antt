@@ -1,92 +1,46 @@
--- `read` meets its contract: each way out has decided the tests up to its own, and the lent buffer is written on the last alone.
-use Prim.Native.Nat.{ℕ, ◌≤◌}
-use mathlib.Core.Path.{◌≡◌, sym, ap, ap₂, ◌∙◌}
+-- `read` meets its contract: what was read into its own bytes is refused in any room, and an accepted table only where it has none.
+use mathlib.Core.Path.{◌≡◌, refl, sym, ap, subst, ◌∙◌}
 use mathlib.Core.List.{List, ◌++◌}
-use mathlib.Core.Option.{some}
 use native.Mathlib.Omega.{arith}
-use lib.ListN.{length, take, drop, replicate, length-replicate}
-use lib.Seq.{sets}
+use lib.ListN.{length, drop}
+use Prim.Native.Nat.{ℕ, ◌≤◌}
 use Rattle.std.proofs.Common.{rules, Ok, Err}
-use Rattle.table.specs.Table.{packed_length}
-use Rattle.table.specs.Accept.{table_verdict}
-use Rattle.sheet.specs.Form.{Sheet, InRange}
-use Rattle.sheet.specs.Parse.{parse}
-use Rattle.reader.specs.Read.{pack}
-use Rattle.sheet.proofs.Whole.{parse_exact}
-use Rattle.reader.proofs.Packed.{pack-length}
-use Rattle.reader.proofs.Stores.{sets_front}
-use Rattle.reader.proofs.Outcome.{not_of_form, table_refused, too_short, accepted_read, too_long}
+use Rattle.reader.specs.Exact.{ReadIsExact}
+use Rattle.reader.proofs.Outcome.{answered}
+use Rattle.reader.proofs.Found.{any_room, read_refused, no_room, room_refused, has_room, exact}
 use Rattle.reader.proofs.reader.read.Goals as goal
 
--- the reader's own bytes at first
-abbrev zeros : List ℕ
-zeros = replicate 580 0
+pub returns-in_err-table-clause-value : goal.returns-in_err-table-clause-value
+returns-in_err-table-clause-value c =
+    let e : c.from_residual.result ≡ Err c.in_err-table.field-0.0 = search rules in
+    e ∙ (answered c.args.text.now c.args.out.now _ (any_room c.args.text.now _ _ c.in_err-table.ensures.value) _ refl).0
 
-module _ (text : List ℕ) {v : Sheet} (e : some v ≡ parse text) where
-  in_range : InRange v
-  in_range = ((parse_exact text v).0 (sym e)).0
+pub returns-in_err-table-clause-out_after : goal.returns-in_err-table-clause-out_after
+returns-in_err-table-clause-out_after c =
+    (answered c.args.text.now c.args.out.now _ (any_room c.args.text.now _ _ c.in_err-table.ensures.value) _ refl).1
 
-  module _ {n : ℕ} (k : n ≡ packed_length v.counts) where
-    -- the length is the packed sheet's
-    len : n ≡ length (pack v)
-    len = k ∙ sym (pack-length v in_range)
-
-    -- the filled part is the packed sheet
-    stored : n ≤ 580 → {after : List ℕ} → after ≡ sets zeros 0 (pack v) → take n after ≡ pack v
-    stored h a =
-        let few : length (pack v) ≤ length zeros = omega (arith, len, length-replicate {A = ℕ} 580 0) in
-        ap (take n) a ∙ ap (λ (m : ℕ). take m (sets zeros 0 (pack v))) len ∙ sets_front (pack v) zeros few
-
-pub returns-in_default : goal.returns-in_default
-returns-in_default c =
-    let o = not_of_form c.args.text.now c.args.out.now (sym c.in_default.ensures) in
-    record { value = o.0; out_after = o.1 }
-
-pub packed_length-length-requires : goal.packed_length-length-requires
-packed_length-length-requires c =
-    let r = (in_range c.args.text.now c.in-Some.ensures).counts in
-    (omega (arith, r.states), (omega (arith, r.steps), omega (arith, r.nodes)))
-
-pub returns-then-length-gt-LONGEST : goal.returns-then-length-gt-LONGEST
-returns-then-length-gt-LONGEST c =
-    let a = c.args in
-    let p = c.in-Some.ensures in
-    let n = c.packed_length-length.ensures in
-    let o = table_refused a.text.now a.out.now _ (sym p) _ (too_long _ (in_range a.text.now p) (omega arith)) in
-    record { value = o.0; out_after = o.1 }
-
-pub pack_sheet-requires : goal.pack_sheet-requires
-pack_sheet-requires c =
-    let n = c.packed_length-length.ensures in
-    record { in_range = in_range c.args.text.now c.in-Some.ensures; counts_in_bounds = omega arith }
-
-pub returns-in_err-check_table : goal.returns-in_err-check_table
-returns-in_err-check_table c =
-    let a = c.args in
-    let p = c.in-Some.ensures in
-    let n = c.packed_length-length in
-    let t = stored a.text.now p n.ensures c.if-length-gt-LONGEST.false c.pack_sheet.ensures in
-    let o = table_refused a.text.now a.out.now _ (sym p) _ (ap table_verdict (sym t) ∙ sym c.in_err-check_table.ensures) in
-    let e : c.from_residual.result ≡ Err c.in_err-check_table.field-0.0 = search rules in
-    record { value = e ∙ o.0; out_after = o.1 }
-
-pub returns-then-out-length : goal.returns-then-out-length
-returns-then-out-length c =
-    let a = c.args in
-    let p = c.in-Some.ensures in
-    let n = c.packed_length-length in
-    let t = stored a.text.now p n.ensures c.if-length-gt-LONGEST.false c.pack_sheet.ensures in
-    let k = len a.text.now p n.ensures in
-    let o = too_short a.text.now a.out.now _ (sym p) (ap table_verdict (sym t) ∙ sym c.in_ok-check_table.ensures) (omega arith) in
-    record { value = o.0; out_after = o.1 }
+pub returns-then-out-table : goal.returns-then-out-table
+returns-then-out-table c =
+    let text = c.args.text.now in
+    let out = c.args.out.now in
+    let h = c.in_ok-table.ensures.value in
+    let o = answered text out _ (no_room text h.0 h.1 (length out) c.if-out-table.true) _ refl in
+    record { value = o.0; out_after = o.1; refused = room_refused text h.0 h.1 (length out) c.if-out-table.true; packed = tt; untouched = refl }
 
 pub returns : goal.returns
 returns c =
-    let a = c.args in
-    let l = a.out.now in
-    let p = c.in-Some.ensures in
-    let n = c.packed_length-length in
-    let t = stored a.text.now p n.ensures c.if-length-gt-LONGEST.false c.pack_sheet.ensures in
-    let k = len a.text.now p n.ensures in
-    let o = accepted_read a.text.now l _ (sym p) (ap table_verdict (sym t) ∙ sym c.in_ok-check_table.ensures) (omega arith) in
-    record { value = ap Ok k ∙ o.0; out_after = ap₂ (λ (x : List ℕ) (m : ℕ). x ++ drop m l) (c.copy_from_slice.ensures.after ∙ t) k ∙ o.1 }
+    let text = c.args.text.now in
+    let out = c.args.out.now in
+    let h = c.in_ok-table.ensures.value in
+    let table = c.in_ok-table.field-0.bytes.now in
+    let fits : length table ≤ length out = c.if-out-table.false in
+    let same = c.copy_from_slice.ensures.after in
+    let written = ap (λ (l : List ℕ). l ++ drop (length table) out) same in
+    let o = answered text out _ (has_room text h.0 h.1 (length out) fits) _ (sym h.1) in
+    record {
+      value = o.0;
+      out_after = written ∙ o.1;
+      refused = tt;
+      packed = subst (ReadIsExact text (length table) out) (sym written) (exact text h.0 h.1 out fits);
+      untouched = tt;
+    }
