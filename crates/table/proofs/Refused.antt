@@ -7,7 +7,7 @@ use mathlib.Core.List.{List}
 use native.Mathlib.Omega.{arith}
 use lib.Dec.{leb, eqb}
 use lib.ListN.{length, get_or}
-use Rattle.std.specs.Prelude.{Ok, Err, IfErr}
+use Rattle.std.specs.Prelude.{Ok, Err}
 use Rattle.table.specs.declared.refusal.Refusal.{Refusal}
 use Rattle.table.specs.declared.refusal.Refusal.TheVariants.{Length, Counts as CountsRefused, StateRecord, NoInitial, StepEnd, RepeatedStep, NodeRecord, ListForm}
 use Rattle.table.specs.Verdict.{Verdict, require}
@@ -78,6 +78,16 @@ module _ (bytes : List ℕ) where
       (λ t4 e4. let last = last_test NodeRecord r (nodes_fit T.props 0 T.nodes) e4 in
       subst (TableRefused bytes) last.1 (right, fit, some, inside, (distinct_decided T).0 t4, rule_fails _ (nodes_decided T) last.0)))))
 
+  -- of bytes of the right length the verdict is that of the records
+  pub right_verdict : RightLength bytes → table_verdict bytes ≡ records_verdict (table_of bytes)
+  unfolding table_verdict
+  right_verdict right =
+      simp (
+        (at_most_decided header_width (length bytes)).1 right.header,
+        (counts_decided (counts_of bytes)).1 right.counts,
+        (same_decided (length bytes) (packed_length (counts_of bytes))).1 right.whole,
+      )
+
   pub table_refused : (r : Refusal) → table_verdict bytes ≡ Err r → TableRefused bytes r
   unfolding table_verdict
   table_refused r e =
@@ -91,14 +101,6 @@ module _ (bytes : List ℕ) where
       (λ t2 e2. let counts = (counts_decided (counts_of bytes)).0 t2 in first_test Length r whole _ e2
       (λ f s. subst (TableRefused bytes) s (inr (header, counts, rule_fails whole (same_decided (length bytes) (packed_length (counts_of bytes))) f)))
       (λ t3 e3. records_refused (record { header = header; counts = counts; whole = (same_decided (length bytes) (packed_length (counts_of bytes))).0 t3 }) r e3)))
-
-  -- the same of an answer that is the verdict
-  pub verdict_accepts : (v : Verdict) → v ≡ table_verdict bytes → (v ≡ Ok tt) ↔ IsTable bytes
-  verdict_accepts v e = (λ a. is_table.0 (sym e ∙ a), λ t. e ∙ is_table.1 t)
-
-  pub verdict_refuses : (v : Verdict) → v ≡ table_verdict bytes → IfErr v (TableRefused bytes)
-  verdict_refuses (Ok tt) e = tt
-  verdict_refuses (Err r) e = table_refused r (sym e)
 
 -- a list is accepted exactly where it has as many bytes as there are steps, each 0 or 1
 pub list_accepts : (e : ℕ) (list : List ℕ) (v : Verdict) → v ≡ list_verdict e list

@@ -3,13 +3,17 @@ ghost use Rattle.std.specs.Prelude.{◌≡◌, ℕ, ◌<◌, Ok, length};
 ghost use Rattle.table.specs.Table.{counts_of, states_part, steps_part, nodes_part, table_of, state_at, step_at, node_at};
 ghost use Rattle.table.specs.Accept.{table_verdict};
 
-use crate::check::check_table;
-use crate::counts::{Counts, counts_of};
+use crate::counts::Counts;
+use crate::header_check::check_header;
+use crate::node_check::check_nodes;
 use crate::record::{Node, State, Step, record_at};
 use crate::refusal::Refusal;
 use crate::section::{node_section, state_section, step_section};
+use crate::state_check::check_states;
+use crate::step_check::check_steps;
 
-/// Whoever is handed one need not ask again whether the table is accepted. It comes by `try_from` alone.
+/// Whoever is handed one need not ask again whether the table is accepted. `try_from` makes it: it tests the bytes and
+/// cuts them once.
 #[derive(Clone, Copy)]
 pub struct Accepted<'a> {
     pub bytes: &'a [u8],
@@ -33,13 +37,19 @@ impl<'a> TryFrom<&'a [u8]> for Accepted<'a> {
     ghost try_from_gives = { λ bytes r. AcceptedFrom bytes.now r };
 
     fn try_from(bytes: &'a [u8]) -> Result<Accepted<'a>, Refusal> {
-        check_table(bytes)?;
+        let counts = check_header(bytes)?;
+        let states = state_section(bytes, counts);
+        let steps = step_section(bytes, counts);
+        let nodes = node_section(bytes, counts);
+        check_states(states, counts.states, counts.props)?;
+        check_steps(steps, counts.steps, counts.states)?;
+        check_nodes(nodes, counts.nodes, counts.props)?;
         Ok(Accepted {
             bytes,
-            counts: counts_of(bytes),
-            states: state_section(bytes),
-            steps: step_section(bytes),
-            nodes: node_section(bytes),
+            counts,
+            states,
+            steps,
+            nodes,
         })
     }
 }

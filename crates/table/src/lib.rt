@@ -3,8 +3,8 @@
 #![tactic(auto)]
 
 mod accepted;
-mod check;
 mod counts;
+mod header_check;
 mod list_check;
 mod node_check;
 mod operator;
@@ -25,7 +25,6 @@ pub use list_check::check_list;
 pub use operator::{Family, Operator, Quantifier, family_of, second_child};
 pub use record::{Node, State, Step, record_at};
 pub use refusal::{Refusal, verdict_number};
-pub use section::{node_section, state_section, step_section};
 pub use shape::{Shape, shape_of};
 pub use state_sets::{initial_states, labelled_states};
 pub use targets::target_sets;
