@@ -11,7 +11,7 @@ use Rattle.table.specs.Table.{Table, step_at}
 use Rattle.ctl.specs.Rule.{root_index}
 use Rattle.ctl.specs.Kept.{Initial}
 use Rattle.circuit.specs.Logic.{pos, neg, gate_clauses}
-use Rattle.circuit.specs.Variables.{step, kept, concat, value}
+use Rattle.circuit.specs.Variables.{step, kept, value}
 use Rattle.circuit.specs.Gates.{Defined, gates}
 use Rattle.circuit.specs.Clauses.{Clause, initials, demands, gates_clauses, clauses}
 use Rattle.circuit.proofs.Lists.{Each, each_one, each_append, each_map, each_concat, in_concat}

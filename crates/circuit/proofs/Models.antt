@@ -9,7 +9,6 @@ use mathlib.Core.Logic.{◌↔◌}
 use mathlib.Core.List.Memᴰ
 use mathlib.Core.List.{List, [], ◌∷◌, Memᴰ}
 use borrow.Author.Tests.{eqb-true, eq-eqb}
-use lib.Dec.{eqb}
 use lib.ListN.{length, get_or}
 use Rattle.table.specs.Table.{Table, step_at}
 use Rattle.table.specs.Facts.{Wellformed}

@@ -1,5 +1,4 @@
 -- The forced literals are the smallest set, and the computed closure has just these.
-use Prim.Native.Nat.{ℕ}
 use mathlib.Core.Path.{◌≡◌}
 use mathlib.Core.Bool.{true}
 use Rattle.circuit.specs.Logic.{Literal}

@@ -1,6 +1,6 @@
 -- What the closure promises: the forced literals are the smallest set that holds what is given and is closed under the
 -- unit rule, and what is computed has just these.
-use Rattle.std.specs.Prelude.{ℕ, ◌≤◌, ◌<◌, ◌≡◌, Bool, true, ◌↔◌, length}
+use Rattle.std.specs.Prelude.{ℕ, ◌≤◌, ◌<◌, ◌≡◌, Bool, true, ◌↔◌}
 use mathlib.Core.List.{List, Memᴰ}
 use Rattle.circuit.specs.Logic.{Literal, opposite}
 use Rattle.circuit.specs.Variables.{Var}

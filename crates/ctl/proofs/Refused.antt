@@ -1,4 +1,5 @@
--- Each refusal of the judge says which part of a repair fails, and that all that is tested before it holds.
+-- The judge accepts exactly the repairs in the narrower sense, and each refusal says which part of a repair fails, and that
+-- all that is tested before it holds.
 use Prim.Native.Nat.{ℕ}
 use mathlib.Core.Path.{◌≡◌, refl, sym, subst, ◌∙◌}
 use mathlib.Core.Bool.{Bool, true, false, false≢true}
@@ -13,12 +14,13 @@ use Rattle.table.specs.Table.{Table, table_of}
 use Rattle.table.specs.Accept.{table_verdict, list_verdict}
 use Rattle.table.specs.Facts.{IsTable}
 use Rattle.table.specs.Refused.{TableRefused}
-use Rattle.table.proofs.Verdicts.{refused, require_accepted}
+use Rattle.table.proofs.Verdicts.{refused, require_accepted, then_accepted}
 use Rattle.table.proofs.Refused.{is_table, table_refused}
 use Rattle.ctl.specs.Kept.{IsList}
+use Rattle.ctl.specs.Exact.{JudgeIsExact, JudgeRefusesRightly}
 use Rattle.ctl.specs.Refused.{JudgeRefused}
 use Rattle.ctl.specs.Tests.{is_total, keeps_initial, leaves_reached, root_marked, narrow_tests, judge_verdict}
-use Rattle.ctl.proofs.Repair.{is_list, is-total, keeps_initial_lem, leaves_reached_lem, root_marked_lem}
+use Rattle.ctl.proofs.Repair.{is_list, is-total, keeps_initial_lem, leaves_reached_lem, root_marked_lem, judge_accepts_repairs}
 
 -- a refusal of two verdicts is the first one's, or the second one's after the first accepts
 pub by_first : (P : Refusal → Type 0) (v w : Verdict) (r : Refusal)
@@ -81,10 +83,23 @@ module _ (table list : List ℕ) where
       by_test P RootFails (root_marked T list) r
       (λ f. (is, form, total, starts, reached, not_so _ (root_marked_lem T is.wellformed list total) f)))))
 
-  pub judge_refused : (r : Refusal) → judge_verdict table list ≡ Err r → P r
+  refuses_rightly : (r : Refusal) → judge_verdict table list ≡ Err r → P r
   unfolding judge_verdict
-  judge_refused r =
+  refuses_rightly r =
       by_first P (table_verdict table) _ r (λ e. of_table r (table_refused table r e))
       (λ ok. let is = (is_table table).0 ok in
       by_first P (list_verdict (length T.steps) list) _ r (by_form P T list r (λ n. (is, n)))
       (λ ok. narrow_refused is ((is_list T list).0 ok) r))
+
+pub judge_refused : JudgeRefusesRightly
+judge_refused = refuses_rightly
+
+pub judge_exact : JudgeIsExact
+unfolding judge_verdict
+judge_exact table list = (
+  λ e.
+      let ok = (then_accepted (table_verdict table) _ e).0 in
+      let is = (is_table table).0 ok in
+      (is, (judge_accepts_repairs table list is.wellformed ok).0 e),
+  λ h. (judge_accepts_repairs table list h.0.wellformed ((is_table table).1 h.0)).1 h.1,
+)

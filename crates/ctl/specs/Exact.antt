@@ -1,9 +1,10 @@
--- What labels promise: over infinite paths they are the meaning of the rule. And what striking promises of a repair. Each
--- statement is the contract of a law (src/laws.rt).
-use Rattle.std.specs.Prelude.{ℕ, ◌<◌, ◌≡◌, Bool, true, ◌↔◌, ◌⊎◌, List, length}
+-- What labels promise: over infinite paths they are the meaning of the rule. What striking promises of a repair, and what
+-- the judge's tests promise of any bytes. Each statement is the contract of a law (src/laws.rt).
+use Rattle.std.specs.Prelude.{ℕ, ◌<◌, ◌≡◌, Bool, true, ◌↔◌, ◌⊎◌, List, length, Ok, Err}
 use Rattle.table.specs.declared.operator.Family.{Family}
-use Rattle.table.specs.Table.{Table, node_at}
-use Rattle.table.specs.Facts.{Wellformed}
+use Rattle.table.specs.declared.refusal.Refusal.{Refusal}
+use Rattle.table.specs.Table.{Table, table_of, node_at}
+use Rattle.table.specs.Facts.{Wellformed, IsTable}
 use Rattle.ctl.specs.Rule.{Quantifier, operator_of, formula_of, formula}
 use Rattle.ctl.specs.Kept.{IsList, Next, Kept, Total, NodeHolds, Struck, Repair, NarrowRepair}
 use Rattle.ctl.specs.Price.{list_price}
@@ -12,6 +13,8 @@ use Rattle.ctl.specs.OnPaths.{OnPaths, Along}
 use Rattle.ctl.specs.Levels.{has, levels}
 use Rattle.ctl.specs.Labels.{targets, marked}
 use Rattle.ctl.specs.Reached.{strike}
+use Rattle.ctl.specs.Refused.{JudgeRefused}
+use Rattle.ctl.specs.Tests.{judge_verdict}
 
 -- under a total list, a state is marked for a node exactly when it is kept and the node holds at it
 abbrev pub LabelsAreMeaning : Type 0
@@ -30,6 +33,14 @@ StrikingNarrows = (T : Table) → Wellformed T → (list : List ℕ) → Repair 
 -- So a table has a repair in the one sense just when it has one in the other: strike the one, or take the other as it is.
 abbrev pub SensesAgree : Type 0
 SensesAgree = (T : Table) → Wellformed T → ((list : List ℕ) → ¬ Repair T list) ↔ ((list : List ℕ) → ¬ NarrowRepair T list)
+
+-- the judge accepts exactly the repairs in the narrower sense
+abbrev pub JudgeIsExact : Type 0
+JudgeIsExact = (table list : List ℕ) → (judge_verdict table list ≡ Ok tt) ↔ (IsTable table × NarrowRepair (table_of table) list)
+
+-- and where it refuses, the refusal says what fails, and all that is tested before it holds
+abbrev pub JudgeRefusesRightly : Type 0
+JudgeRefusesRightly = (table list : List ℕ) (r : Refusal) → judge_verdict table list ≡ Err r → JudgeRefused table list r
 
 -- the formula of a node is its operator on the formulas of its children
 abbrev pub FormulaOfNode : Type 0

@@ -6,6 +6,8 @@ ghost use Rattle.ctl.specs.Exact.{
   StrikeIsExact,
   StrikingNarrows,
   SensesAgree,
+  JudgeIsExact,
+  JudgeRefusesRightly,
   RankOrders,
   CheapestIsUnique,
 };
@@ -42,6 +44,12 @@ pub fn striking_narrows()
 /// A table has a repair in the one sense exactly when it has one in the other.
 pub fn senses_agree()
     ensures { SensesAgree }
+{}
+
+/// The judge's tests accept exactly the narrow repairs, and each refusal says what fails.
+pub fn judge_is_right()
+    ensures exact { JudgeIsExact }
+    ensures refused { JudgeRefusesRightly }
 {}
 
 /// Rank orders the lists of a table, and at most one repair is the cheapest, then first in rank.

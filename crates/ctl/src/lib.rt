@@ -4,6 +4,6 @@
 mod laws;
 
 pub use laws::{
-    cheapest_is_unique, formula_of_node, kinds_are_related, labels_are_meaning, levels_are_paths,
-    senses_agree, striking_narrows,
+    cheapest_is_unique, formula_of_node, judge_is_right, kinds_are_related, labels_are_meaning,
+    levels_are_paths, senses_agree, striking_narrows,
 };

@@ -1,5 +1,5 @@
 -- The repairer is right, and the judge accepts the narrow repairs.
-use Rattle.judge.proofs.Exact.{judge_exact}
+use Rattle.ctl.proofs.Refused.{judge_exact}
 use Rattle.repair.proofs.Right.{every_repair_is_right}
 use Rattle.fitter.specs.RepairerAndJudge.{RepairerAndJudge}
 

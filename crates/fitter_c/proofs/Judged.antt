@@ -9,7 +9,7 @@ use Rattle.table.specs.Table.{table_of}
 use Rattle.table.specs.Facts.{IsTable}
 use Rattle.ctl.specs.Kept.{NarrowRepair}
 use Rattle.ctl.specs.Tests.{judge_verdict}
-use Rattle.judge.proofs.Exact.{judge_exact}
+use Rattle.ctl.proofs.Refused.{judge_exact}
 use Rattle.fitter.proofs.Numbers.{of_none}
 
 number_0 : (v : Verdict) → verdict_number v ≡ 0 → v ≡ Ok tt

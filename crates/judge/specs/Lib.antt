@@ -1,2 +1,1 @@
 pub mod Reached
-pub mod Exact

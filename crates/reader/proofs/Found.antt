@@ -9,15 +9,15 @@ use lib.ListN.{length, drop}
 use Rattle.std.specs.Prelude.{Result, Ok, Err, IfOk, IfErr}
 use Rattle.table.specs.declared.refusal.Refusal.{Refusal}
 use Rattle.table.specs.declared.refusal.Refusal.TheVariants.{SheetForm, Length, ShortBuffer}
-use Rattle.table.specs.Verdict.{Verdict, require, ◌then◌}
-use Rattle.table.specs.Table.{counts_of, packed_length, table_of, header_width}
-use Rattle.table.specs.Accept.{table_verdict, records_verdict, counts_fit, all, any, distinct, state_fits, is_initial, step_fits, nodes_fit}
+use Rattle.table.specs.Verdict.{Verdict}
+use Rattle.table.specs.Table.{packed_length}
+use Rattle.table.specs.Accept.{table_verdict}
 use Rattle.table.specs.Facts.{IsTable}
 use Rattle.table.specs.Refused.{TableRefused}
 use Rattle.table.specs.declared.accepted.Accepted.{Accepted}
 use Rattle.table.specs.From.{AcceptedFrom}
 use Rattle.table.proofs.Facts.{accepted}
-use Rattle.table.proofs.Verdicts.{refused, then_next, accepted_require}
+use Rattle.table.proofs.Verdicts.{refused}
 use Rattle.table.proofs.Refused.{is_table, table_refused as why_refused}
 use Rattle.table.proofs.Buffer.{front_written}
 use Rattle.sheet.specs.Form.{Sheet, InRange, IsSheet}

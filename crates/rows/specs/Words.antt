@@ -1,5 +1,5 @@
 -- Rows in a list of words: row k is the words at 2 k and 2 k + 1.
-use Rattle.std.specs.Prelude.{ℕ, ◌+◌, ◌*◌, ◌<◌, ◌^◌, Bool, not, ◌&&◌, ◌||◌, List, eqb, get_or, set}
+use Rattle.std.specs.Prelude.{ℕ, ◌+◌, ◌*◌, ◌<◌, ◌^◌, Bool, not, ◌||◌, List, eqb, get_or, set}
 use Rattle.rows.specs.declared.row.Row.{Row}
 use Rattle.rows.specs.declared.row.Report.{Report}
 use Rattle.rows.specs.Row.{union, clashes}

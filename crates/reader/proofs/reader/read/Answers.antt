@@ -1,13 +1,12 @@
 -- `read` meets its contract: what was read into its own bytes is refused in any room, and an accepted table only where it has none.
 use mathlib.Core.Path.{◌≡◌, refl, sym, ap, subst, ◌∙◌}
 use mathlib.Core.List.{List, ◌++◌}
-use native.Mathlib.Omega.{arith}
 use lib.ListN.{length, drop}
 use Prim.Native.Nat.{ℕ, ◌≤◌}
-use Rattle.std.proofs.Common.{rules, Ok, Err}
+use Rattle.std.proofs.Common.{rules, Err}
 use Rattle.reader.specs.Exact.{ReadIsExact}
 use Rattle.reader.proofs.Outcome.{answered}
-use Rattle.reader.proofs.Found.{any_room, read_refused, no_room, room_refused, has_room, exact}
+use Rattle.reader.proofs.Found.{any_room, no_room, room_refused, has_room, exact}
 use Rattle.reader.proofs.reader.read.Goals as goal
 
 pub returns-in_err-table-clause-value : goal.returns-in_err-table-clause-value

@@ -6,13 +6,10 @@ use mathlib.Core.Option.{some}
 use native.Mathlib.Omega.{arith}
 use lib.ListN.{length, take, replicate, length-replicate}
 use lib.Seq.{sets}
-use Rattle.std.proofs.Common.{rules, Ok, Err}
 use Rattle.table.specs.Table.{packed_length}
-use Rattle.table.specs.Accept.{table_verdict}
-use Rattle.table.specs.declared.refusal.Refusal.{Refusal}
 use Rattle.sheet.specs.Form.{Sheet, InRange}
 use Rattle.sheet.specs.Parse.{parse}
-use Rattle.reader.specs.Read.{pack, packed, read_verdict}
+use Rattle.reader.specs.Read.{pack}
 use Rattle.sheet.proofs.Whole.{parse_exact}
 use Rattle.reader.proofs.Packed.{pack-length}
 use Rattle.reader.proofs.Stores.{sets_front}
