@@ -1,25 +1,25 @@
 -- What Repair answers and leaves.
 use Prim.Native.Nat.{ℕ}
 use mathlib.Core.Path.{◌≡◌, refl, sym, subst}
-use mathlib.Core.List.{List, ◌++◌}
+use mathlib.Core.List.{List}
 use native.Mathlib.Omega.{arith}
-use lib.ListN.{length, drop}
+use mathlib.Core.Logic.{◌↔◌}
+use lib.ListN.{length, take}
+use lib.Seq.{get_or-take, length-take-le}
 use Rattle.std.specs.Prelude.{Ok, Err}
 use Rattle.table.specs.Verdict.{Verdict}
 use Rattle.table.specs.Buffer.{on_accepted, Written}
 use Rattle.table.specs.Table.{Table, table_of}
-use Rattle.table.proofs.Buffer.{front_written}
-use Rattle.ctl.specs.Reached.{strike}
-use Rattle.ctl.proofs.Strike.{strike-length}
-use Rattle.closure.specs.Closure.{Marks}
 use Rattle.search.specs.Search.{Outcome, found, none, spent}
-use Rattle.search.specs.TableSearch.{search_under, list_of}
+use Rattle.search.specs.TableSearch.{search_under}
 use Rattle.search.specs.declared.answer.Answer.{Answer}
-use Rattle.search.specs.declared.answer.Answer.TheVariants.{Found}
-use Rattle.search.specs.Answer.{IsFound}
+use Rattle.search.specs.declared.answer.Answer.TheVariants.{Found, None, Spent, Refused}
+use Rattle.search.specs.Answer.{IsFound, IfFound, IfRefused}
 use Rattle.repair.specs.Outcome.{repair_verdict, answer_at, written_after, repair_answer, repair_list, repair_bytes, repair_words}
-use Rattle.repair.proofs.Order.{accepted_parts, Left}
+use Rattle.repair.specs.Right.{LongEnough, FoundList}
+use Rattle.repair.proofs.Order.{Left}
 use Rattle.repair.proofs.Refusals.{refused_right, refused_leaves, answered_just, cleared_front}
+use Rattle.repair.proofs.Right.{every_repair_is_right}
 use Rattle.fitter.specs.LentMemory.{RepairLeaves}
 
 -- what is not found leaves the list
@@ -29,14 +29,6 @@ stays T list (Ok tt) (found m p c k) missed = absurd (missed tt)
 stays T list (Ok tt) (none c k) missed = refl
 stays T list (Ok tt) (spent c k) missed = refl
 stays T list (Err r) o missed = refl
-
--- found, so every test passed and the search found it
-found_back : (v : Verdict) (o : Outcome) (p c k : ℕ) → answer_at v o ≡ Found p c k
-    → (v ≡ Ok tt) × ((m : Marks) × (o ≡ found m p c k))
-found_back (Ok tt) (found m q d l) p c k e = (refl, (m, cc))
-found_back (Ok tt) (none d l) p c k e = absurd (let z : ◌≡◌ {A = ℕ} 0 1 = cc in omega arith)
-found_back (Ok tt) (spent d l) p c k e = absurd (let z : ◌≡◌ {A = ℕ} 0 1 = cc in omega arith)
-found_back (Err r) o p c k e = absurd (let z : ◌≡◌ {A = ℕ} 0 1 = cc in omega arith)
 
 module _ (table : List ℕ) (cap : ℕ) (list bytes words : List ℕ) where
   abbrev T : Table
@@ -57,26 +49,40 @@ module _ (table : List ℕ) (cap : ℕ) (list bytes words : List ℕ) where
   done : Left table cap list bytes words answer list' bytes' words'
   done = (refl, (refl, (refl, refl)))
 
-  struck : (p c k : ℕ) → answer ≡ Found p c k
-      → (m : Marks) × (search_under T cap ≡ found m p c k) × Written (strike T (list_of T m)) list list'
-  struck p c k e =
-      let b = found_back (repair_verdict table list bytes words) (search_under T cap) p c k e in
-      let m = b.1.0 in
-      let long = (accepted_parts table list bytes words b.0).1 in
-      let after : list' ≡ strike T (list_of T m) ++ drop (length T.steps) list =
-      (λ j. on_accepted (b.0 j) (written_after T (b.1.1 j) list) list) in (
-        m,
-        b.1.1,
-        subst (λ (after : List ℕ). Written (strike T (list_of T m)) list after) (sym after)
-            (front_written (strike T (list_of T m)) list (length T.steps) (strike-length T (list_of T m)) long),
+  just : IfRefused answer (λ r. ⊥) ↔ LongEnough table list bytes words
+  just = answered_just table cap list bytes words answer list' bytes' words' done
+
+  abbrev Wrote : ℕ → Type 0
+  Wrote price = (written : List ℕ) × FoundList T price written × Written written list list'
+
+  -- the bytes of the steps are what is found
+  wrote : (p c k : ℕ) → answer ≡ Found p c k → Wrote p
+  wrote p c k e =
+      let long = just.0 (subst (λ (a : Answer). IfRefused a (λ r. ⊥)) (sym e) tt) in
+      let right = every_repair_is_right table cap list bytes words long in
+      let front = take (length T.steps) list' in
+      let size : length front ≡ length T.steps = length-take-le (length T.steps) list' (omega (arith, right.rest_stays.0, long.list_long)) in (
+        front,
+        subst (λ (a : Answer). IfFound a (λ price. FoundList T price front)) e right.cheapest,
+        record {
+          size = right.rest_stays.0;
+          front = λ j h. sym (get_or-take (length T.steps) list' j 0 (omega (arith, h, size)));
+          rest = λ j h. right.rest_stays.1 j (omega (arith, h, size));
+        },
       )
+
+  by_answer : (a : Answer) → answer ≡ a → IfFound a Wrote
+  by_answer (Found p c k) e = wrote p c k e
+  by_answer (None c k) e = tt
+  by_answer (Spent c k) e = tt
+  by_answer (Refused r) e = tt
 
   pub repair_leaves : RepairLeaves table cap answer list bytes words list' bytes' words'
   repair_leaves = record {
     refused = refused_right table cap list bytes words answer list' bytes' words' done;
     untouched = refused_leaves table cap list bytes words answer list' bytes' words' done;
-    answered = answered_just table cap list bytes words answer list' bytes' words' done;
-    struck = struck;
+    answered = just;
+    found = by_answer answer refl;
     list_stays = stays T list (repair_verdict table list bytes words) (search_under T cap);
     cleared = cleared_front table cap list bytes words answer list' bytes' words' done;
   }

@@ -93,6 +93,7 @@ refused_number (Refused q) r = (λ e. ap Refused (distinct q r e), λ e. ap answ
 
 pub numbers_tell : NumbersTell
 numbers_tell = record {
+  numbers = refl;
   distinct = distinct;
   not_zero = of_none 0 refl;
   found = found_number;

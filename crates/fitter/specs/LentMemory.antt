@@ -3,30 +3,25 @@
 --
 -- The answers and the buffers are those of the contracts of `repair`, `judge_list`, `label_nodes`, `holding_states` and
 -- `read`. A function that is proved ends. What the numbers hold that C lends, the contracts of the crate fitter_c say.
-use Rattle.std.specs.Prelude.{ℕ, ◌≤◌, ◌≡◌, ◌↔◌, List, Result, IsOk, IfOk, IfErr, OnOk, OnErr, length, replicate}
+use Rattle.std.specs.Prelude.{ℕ, ◌≡◌, ◌↔◌, List, Result, IsOk, IfOk, IfErr, OnOk, OnErr, length, replicate}
 use Rattle.table.specs.declared.refusal.Refusal.{Refusal}
 use Rattle.table.specs.Verdict.{Verdict}
 use Rattle.table.specs.Buffer.{Written}
 use Rattle.table.specs.Table.{table_of}
 use Rattle.table.specs.Facts.{IsTable}
 use Rattle.ctl.specs.Kept.{NarrowRepair}
-use Rattle.ctl.specs.Reached.{strike}
 use Rattle.ctl.specs.Refused.{JudgeRefused, ListRefused}
 use Rattle.ctl.specs.Tests.{judge_verdict}
 use Rattle.circuit.specs.Variables.{variable_formula}
-use Rattle.closure.specs.Closure.{Marks}
 use Rattle.label.specs.Calls.{label_verdict, label_buffer, holding_answer, holding_buffer}
 use Rattle.label.specs.Exact.{LabelIsExact, HoldingIsExact}
-use Rattle.reader.specs.Exact.{SheetOf, ReadRefused, ReadIsExact}
+use Rattle.reader.specs.Exact.{Readable, ReadRefused, ReadIsExact}
 use Rattle.reader.specs.Read.{read_answer, read_buffer}
 use Rattle.search.specs.declared.answer.Answer.{Answer}
-use Rattle.search.specs.declared.answer.Answer.TheVariants.{Found}
-use Rattle.search.specs.Answer.{IsFound, IfRefused}
-use Rattle.search.specs.Search.{found}
-use Rattle.search.specs.TableSearch.{search_under, list_of}
+use Rattle.search.specs.Answer.{IsFound, IfFound, IfRefused}
 use Rattle.repair.specs.Outcome.{repair_answer, repair_list, repair_bytes, repair_words}
 use Rattle.repair.specs.Refused.{RepairRefused}
-use Rattle.repair.specs.Right.{LongEnough}
+use Rattle.repair.specs.Right.{LongEnough, FoundList}
 use Rattle.fitter.specs.Numbers.{NumbersTell}
 use Rattle.fitter.specs.TotalWithRoom.{TotalWithRoom}
 
@@ -38,11 +33,9 @@ module _ (table : List ℕ) (cap : ℕ) (answer : Answer) (list bytes words list
     pub untouched : IfRefused answer (λ r. (list' ≡ list) × ((bytes' ≡ bytes) × (words' ≡ words)))
     -- nothing is refused exactly where the bytes are a table and the buffers are long enough
     pub answered : IfRefused answer (λ r. ⊥) ↔ LongEnough table list bytes words
-    -- found: what the search finds, struck, stands at the front of the list, and the rest stays
-    pub struck : (p c k : ℕ) → answer ≡ Found p c k
-        → (m : Marks)
-        × (search_under (table_of table) cap ≡ found m p c k)
-        × Written (strike (table_of table) (list_of (table_of table) m)) list list'
+    -- found: the cheapest repair, struck, stands at the front of the list, and the rest stays
+    pub found : IfFound answer (λ price.
+        (written : List ℕ) × FoundList (table_of table) price written × Written written list list')
     -- else the list stays
     pub list_stays : (¬ IsFound answer) → list' ≡ list
     -- found, none and spent leave an entry for each variable of the circuit 0 in both work buffers, and the rest as it
@@ -74,7 +67,7 @@ pub record HoldingLeaves (table list : List ℕ) (answer : Result ℕ Refusal) (
 pub record ReadLeaves (text : List ℕ) (answer : Result ℕ Refusal) (before after : List ℕ) : Type 0 where
   pub refused : IfErr answer (ReadRefused text (length before))
   pub untouched : OnErr answer (after ≡ before)
-  pub answered : IsOk answer ↔ ((table : List ℕ) × SheetOf text table × IsTable table × (length table ≤ length before))
+  pub answered : IsOk answer ↔ Readable text (length before)
   pub written : IfOk answer (λ k. ReadIsExact text k before after)
 
 pub record LentMemory : Type 0 where

@@ -1,12 +1,14 @@
 -- What was found out of a text, and with it what Read's answer means.
 use Prim.Native.Nat.{ℕ, ◌≤◌, ◌<◌}
 use mathlib.Core.Path.{◌≡◌, refl, sym, ap, subst, ◌∙◌}
-use mathlib.Core.Logic.{inl, inr}
+use mathlib.Core.Bool.{false≢true}
+use mathlib.Core.Logic.{◌↔◌, inl, inr}
 use mathlib.Core.List.{List, ◌++◌}
 use mathlib.Core.Option.{Option, none, some}
+use native.Mathlib.Decide.{dec_lt}
 use native.Mathlib.Omega.{arith}
 use lib.ListN.{length, drop}
-use Rattle.std.specs.Prelude.{Result, Ok, Err, IfOk, IfErr}
+use Rattle.std.specs.Prelude.{Result, Ok, Err, IsOk, IfOk, IfErr}
 use Rattle.table.specs.declared.refusal.Refusal.{Refusal}
 use Rattle.table.specs.declared.refusal.Refusal.TheVariants.{SheetForm, Length, ShortBuffer}
 use Rattle.table.specs.Verdict.{Verdict}
@@ -23,8 +25,8 @@ use Rattle.table.proofs.Buffer.{front_written}
 use Rattle.sheet.specs.Form.{Sheet, InRange, IsSheet}
 use Rattle.sheet.specs.Parse.{parse}
 use Rattle.sheet.proofs.Whole.{parse_exact, sheet_parses, none_some}
-use Rattle.reader.specs.Read.{pack, packed, read_verdict, ReadInto}
-use Rattle.reader.specs.Exact.{SheetOf, ReadIsExact, TextRefused, ReadRefused}
+use Rattle.reader.specs.Read.{pack, packed, answer, read_verdict, ReadInto}
+use Rattle.reader.specs.Exact.{SheetOf, Readable, ReadIsExact, TextRefused, ReadRefused}
 use Rattle.reader.proofs.Packed.{pack-length, counts_pack}
 use Rattle.reader.proofs.Outcome.{not_of_form, table_refused, too_short, accepted_read}
 
@@ -136,7 +138,39 @@ module _ (text : List ℕ) where
     has_room room l = accepted_read text room v form (found_good h).2 (subst (λ (t : List ℕ). length t ≤ room) packed_is l)
 
     pub exact : (before : List ℕ) → length table ≤ length before → ReadIsExact text (length table) before (table ++ drop (length table) before)
-    exact before l = record { table = table; sheet = the_sheet; is_table = the_table; size = refl; written = front_written table before (length table) refl l }
+    exact before l = record {
+      table = table;
+      sheet = the_sheet;
+      is_table = the_table;
+      size = refl;
+      fits = l;
+      written = front_written table before (length table) refl l;
+    }
+
+  -- ---- accepted in a room: exactly a sheet whose table is one and has room there
+
+  module _ (room : ℕ) where
+    readable : Readable text room → read_verdict text room ≡ Ok tt
+    readable (table, (w, range, is_text, same), is, fits) =
+        accepted_read text room w ((parse_exact text w).1 (range, is_text))
+        (subst (λ (t : List ℕ). table_verdict t ≡ Ok tt) same ((is_table _).1 is))
+        (subst (λ (t : List ℕ). length t ≤ room) same fits)
+
+    read_back : read_verdict text room ≡ Ok tt → Readable text room
+    read_back h = go (found text)
+      where
+        go : Found text → Readable text room
+        go (no_sheet e) = absurd (not_both h (not_of_form text room e))
+        go (bad v e r t) = absurd (not_both h (table_refused text room v e r t))
+        go (good v e t) =
+            elim (dec_lt room (length (pack v))) [
+              | yes short ↦ absurd (not_both h (too_short text room v e t short))
+              | no long ↦ (pack v, sheet_of_parsed v e, (is_table (pack v)).0 t, omega (arith, long))
+            ]
+
+    pub accepted_just : (w : Verdict) → read_verdict text room ≡ w → (table : List ℕ) → IsOk (answer w table) ↔ Readable text room
+    accepted_just (Ok tt) h table = (λ ok. read_back h, λ r. refl)
+    accepted_just (Err r) h table = (λ ok. absurd (false≢true ok), λ x. absurd (refused r (sym h ∙ readable x)))
 
 -- what the tests of a packed sheet gave, as what was read
 module _ (text : List ℕ) (v : Sheet) (e : parse text ≡ some v) (bytes : List ℕ) (same : bytes ≡ pack v) where

@@ -1,5 +1,5 @@
 -- What Read gives, in the words of the sheet: which table is packed, and why a text is refused.
-use Rattle.std.specs.Prelude.{ℕ, ◌<◌, ◌≡◌, List, length}
+use Rattle.std.specs.Prelude.{ℕ, ◌≤◌, ◌<◌, ◌≡◌, List, length}
 use Rattle.table.specs.declared.refusal.Refusal.{Refusal}
 use Rattle.table.specs.declared.refusal.Refusal.TheVariants.{SheetForm, Length, ShortBuffer}
 use Rattle.table.specs.Buffer.{Written}
@@ -12,12 +12,17 @@ use Rattle.reader.specs.Read.{pack}
 abbrev pub SheetOf : List ℕ → List ℕ → Type 0
 SheetOf text table = (v : Sheet) × InRange v × (text ≡ render v) × (table ≡ pack v)
 
--- of an accepted text: its packed table, k bytes long, is a table, and stands at the front of the buffer
+-- the text is a sheet whose packed table is one, and has room in a buffer of `room` bytes
+abbrev pub Readable : List ℕ → ℕ → Type 0
+Readable text room = (table : List ℕ) × SheetOf text table × IsTable table × (length table ≤ room)
+
+-- of an accepted text: its packed table, k bytes long, is a table, has room in the buffer and stands at its front
 pub record ReadIsExact (text : List ℕ) (k : ℕ) (before after : List ℕ) : Type 0 where
   pub table : List ℕ
   pub sheet : SheetOf text table
   pub is_table : IsTable table
   pub size : length table ≡ k
+  pub fits : k ≤ length before
   pub written : Written table before after
 
 -- why a text gives no table, for each refusal: it is no sheet, or it is a sheet and its packed table is refused. A packed sheet is as

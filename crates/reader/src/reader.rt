@@ -1,8 +1,8 @@
 // Read: a sheet into a packed table.
-ghost use Rattle.std.specs.Prelude.{◌≡◌, length, replicate, OnErr, IfErr, IfOk};
+ghost use Rattle.std.specs.Prelude.{◌≡◌, ◌↔◌, length, replicate, IsOk, OnErr, IfErr, IfOk};
 ghost use Rattle.table.specs.Facts.{IsTable};
 ghost use Rattle.reader.specs.Read.{read_answer, read_buffer, ReadInto};
-ghost use Rattle.reader.specs.Exact.{SheetOf, ReadIsExact, TextRefused, ReadRefused};
+ghost use Rattle.reader.specs.Exact.{SheetOf, Readable, ReadIsExact, TextRefused, ReadRefused};
 
 use crate::pack::pack_sheet;
 use sheet::check_form;
@@ -37,6 +37,7 @@ pub fn read_into<'a>(text: &[u8], packed: &'a mut [u8; LONGEST]) -> Result<Accep
 pub fn read(text: &[u8], out: &mut [u8]) -> Result<usize, Refusal>
     ensures value { result ≡ read_answer text.now out.old }
     ensures out_after { out.new ≡ read_buffer text.now out.old }
+    ensures accepted { IsOk result ↔ Readable text.now (length out.old) }
     ensures refused { IfErr result (ReadRefused text.now (length out.old)) }
     ensures packed { IfOk result (λ k. ReadIsExact text.now k out.old out.new) }
     ensures untouched { OnErr result (out.new ≡ out.old) }

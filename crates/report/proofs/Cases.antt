@@ -43,6 +43,10 @@ module _ (text : List ℕ) where
     text_into (Ok table) e = text_read (Ok tt) e.0 ∙ ap (table_text cap) (sym e.1)
     text_into (Err r) e = text_read (Err r) e
 
+    -- what was read, with what is known of it
+    pub text_is : {r q : Result Accepted Refusal} → ReadInto text r → r ≡ q → into_text q ≡ fit_text text
+    text_is {r} read e = ap into_text (sym e) ∙ sym (text_into r read)
+
   -- there is room for all that is printed
   pub text_room : (out : List ℕ) → 2048 ≤ length out → Room out 0 (fit_text text)
   text_room out h = omega (arith, text_length text)

@@ -7,5 +7,6 @@ pub mod Cases
 pub mod Back
 pub mod Says
 pub mod Printed
+pub mod ListPrinted
 pub mod Written
 pub mod SampleTexts

@@ -3,7 +3,7 @@ use Prim.Native.Nat.{ℕ, ◌+◌, ◌*◌, ◌≤◌, ◌<◌}
 use mathlib.Core.Path.{◌≡◌, refl, sym, ap, subst, ◌∙◌}
 use mathlib.Core.Logic.{inl, inr}
 use mathlib.Core.Bool.{cond}
-use mathlib.Core.List.{List}
+use mathlib.Core.List.{List, ◌++◌}
 use mathlib.Core.Option.{Option, none, some}
 use native.Mathlib.Decide.{dec_lt}
 use native.Mathlib.Omega.{arith}
@@ -26,7 +26,7 @@ use Rattle.reader.specs.Read.{pack, packed}
 use Rattle.reader.specs.Exact.{SheetOf}
 use Rattle.reader.proofs.Outcome.{not_of_form, table_refused}
 use Rattle.reader.proofs.Found.{room_enough}
-use Rattle.report.specs.Report.{counted, refused, table_text, cap, fit_text}
+use Rattle.report.specs.Report.{refused, table_text, cap, fit_text}
 use Rattle.report.specs.Exact.{FitTable, FitRefused, TableSays, FitSays, NoneSays, RefusedSays}
 use Rattle.report.proofs.Cases.{too_long, text_read}
 use Rattle.report.proofs.Back.{refused_back}
@@ -74,7 +74,7 @@ same_refusal q r e = sym (told q) ∙ ap refusal_in e ∙ told r
 
 -- ---- a byte in which two texts differ
 
-differ : {A : Type 0} (xs ys : List ℕ) (at x y : ℕ) → get_or xs at 0 ≡ x → get_or ys at 0 ≡ y → ¬ (x ≡ y) → xs ≡ ys → A
+pub differ : {A : Type 0} (xs ys : List ℕ) (at x y : ℕ) → get_or xs at 0 ≡ x → get_or ys at 0 ≡ y → ¬ (x ≡ y) → xs ≡ ys → A
 differ xs ys at x y p q n e = absurd (n (sym p ∙ ap (λ (l : List ℕ). get_or l at 0) e ∙ q))
 
 -- no text of a table is that of a refusal: at 7 they name the choices and the number
@@ -86,20 +86,20 @@ not_refused most table printed r (inr (inr of_found)) e = differ _ _ 7 99 110 re
 
 -- ---- none
 
-no_repair : (most : ℕ) (table printed : List ℕ) (c : ℕ)
-    → TableSays most table printed → printed ≡ counted (ascii "none ") c 0
+no_repair : (most : ℕ) (table printed rest : List ℕ)
+    → TableSays most table printed → printed ≡ ascii "answer choices price\n" ++ (ascii "none " ++ rest)
     → (list : List ℕ) → ¬ Repair (table_of table) list
-no_repair most table printed c (inl of_none) e = of_none.no_repair
-no_repair most table printed c (inr (inl of_spent)) e = differ _ _ 21 115 110 refl refl (omega arith) (sym of_spent.text ∙ e)
-no_repair most table printed c (inr (inr of_found)) e = differ _ _ 21 102 110 refl refl (omega arith) (sym of_found.text ∙ e)
+no_repair most table printed rest (inl of_none) e = of_none.no_repair
+no_repair most table printed rest (inr (inl of_spent)) e = differ _ _ 21 115 110 refl refl (omega arith) (sym of_spent.text ∙ e)
+no_repair most table printed rest (inr (inr of_found)) e = differ _ _ 21 102 110 refl refl (omega arith) (sym of_found.text ∙ e)
 
 pub none_says : (text : List ℕ) → NoneSays text (fit_text text)
-none_says text c e = by (fit_says text)
+none_says text rest e = by (fit_says text)
   where
     by : FitSays text (fit_text text)
         → (table : List ℕ) × FitTable text table × ((list : List ℕ) → ¬ Repair (table_of table) list)
     by (inl (r, why, is)) = differ _ _ 7 110 99 refl refl (omega arith) (sym is ∙ e)
-    by (inr (table, fits, says)) = (table, fits, no_repair cap table (fit_text text) c says e)
+    by (inr (table, fits, says)) = (table, fits, no_repair cap table (fit_text text) rest says e)
 
 -- ---- refused
 
@@ -144,6 +144,7 @@ module _ (text : List ℕ) where
 
   back : (r : Refusal) → FitRefused text r → fit_text text ≡ refused r
   back SheetForm t = by_form t
+  back Length t = absurd t
   back ShortBuffer t = by_room t.0 t.1.0 t.1.1 t.1.2 t.1.3
   back r t = by_table r t.0 t.1.0 t.1.1 t.1.2
 

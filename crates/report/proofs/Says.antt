@@ -135,7 +135,7 @@ module _ (most : ℕ) (table : List ℕ) (is : IsTable table) where
 module _ (text : List ℕ) (short : length text ≤ 4096) where
   of_short : (r : Refusal) → TextRefused text r → FitRefused text r
   of_short SheetForm t = inr t
-  of_short Length t = absurd t
+  of_short Length t = t
   of_short ShortBuffer t = absurd t.2
   of_short r t = (short, t)
 

@@ -1,8 +1,8 @@
 -- What is printed, in the words of sheets, tables and repairs: one of four answers, and what each of them says of the
 -- text.
-use Rattle.std.specs.Prelude.{ℕ, ◌≤◌, ◌<◌, ◌≡◌, ◌↔◌, ◌⊎◌, List, length}
+use Rattle.std.specs.Prelude.{ℕ, ◌≤◌, ◌<◌, ◌≡◌, ◌↔◌, ◌⊎◌, List, ◌++◌, length}
 use Rattle.table.specs.declared.refusal.Refusal.{Refusal}
-use Rattle.table.specs.declared.refusal.Refusal.TheVariants.{SheetForm, ShortBuffer}
+use Rattle.table.specs.declared.refusal.Refusal.TheVariants.{SheetForm, Length, ShortBuffer}
 use Rattle.table.specs.Table.{table_of}
 use Rattle.table.specs.Facts.{IsTable}
 use Rattle.table.specs.Refused.{TableRefused}
@@ -24,9 +24,11 @@ pub record FitTable (text table : List ℕ) : Type 0 where
   pub few_variables : variable_formula (table_of table) ≤ 10000
 
 -- For which text each refusal is printed: it is too long or no sheet; its table's circuit has too many variables; or
--- its table fails a test, and passes all that are tested before.
+-- its table fails a test, and passes all that are tested before. A packed sheet is as long as its counts say, so 2 is
+-- for no text.
 abbrev pub FitRefused : List ℕ → Refusal → Type 0
 FitRefused text SheetForm = (4096 < length text) ⊎ (¬ IsSheet text)
+FitRefused text Length = ⊥
 FitRefused text ShortBuffer =
     (length text ≤ 4096)
     × ((table : List ℕ) × SheetOf text table × IsTable table × (10000 < variable_formula (table_of table)))
@@ -63,10 +65,17 @@ FitSays text printed =
     ((r : Refusal) × FitRefused text r × (printed ≡ refused r))
     ⊎ ((table : List ℕ) × FitTable text table × TableSays cap table printed)
 
--- the word none is printed only of a text whose table no list repairs
+-- the word none is printed, whatever stands behind it, only of a text whose table no list repairs
 abbrev pub NoneSays : List ℕ → List ℕ → Type 0
-NoneSays text printed = (c : ℕ) → printed ≡ counted (ascii "none ") c 0
+NoneSays text printed = (rest : List ℕ) → printed ≡ ascii "answer choices price\n" ++ (ascii "none " ++ rest)
     → (table : List ℕ) × FitTable text table × ((list : List ℕ) → ¬ Repair (table_of table) list)
+
+-- a list and a price are printed only where that list is the cheapest repair of the text's table, struck, of that price
+abbrev pub ListSays : List ℕ → List ℕ → Type 0
+ListSays text printed =
+    (table : List ℕ) → FitTable text table → (price choices : ℕ) (list : List ℕ)
+    → length list ≡ length (table_of table).steps → printed ≡ found_text table price choices list
+    → FoundList (table_of table) price list
 
 -- each refusal is printed exactly for the texts that it names
 abbrev pub RefusedSays : List ℕ → List ℕ → Type 0

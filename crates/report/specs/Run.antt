@@ -2,7 +2,7 @@
 -- standard input and output are not, but nothing in the program asks which reader and writer it has.
 use Rattle.std.specs.Prelude.{◌≡◌, List, ℕ, ◌++◌, ⊤, Option, None, Some}
 use Rattle.report.specs.Report.{fit_text}
-use Rattle.report.specs.Exact.{FitSays}
+use Rattle.report.specs.Exact.{FitSays, NoneSays, ListSays, RefusedSays}
 
 -- of a reader that had this text, and a writer that had these bytes: what is printed for the text stands behind them
 abbrev pub Printed : Option (List ℕ) → Option (List ℕ) → Option (List ℕ) → Type 0
@@ -14,7 +14,12 @@ Printed None before after = ⊤
 -- the same, by what it says of the text
 abbrev pub WrittenSays : Option (List ℕ) → Option (List ℕ) → Option (List ℕ) → Type 0
 WrittenSays (Some text) (Some before) (Some after) =
-    (printed : List ℕ) × (after ≡ before ++ printed) × FitSays text printed
+    (printed : List ℕ)
+    × (after ≡ before ++ printed)
+    × FitSays text printed
+    × NoneSays text printed
+    × ListSays text printed
+    × RefusedSays text printed
 WrittenSays (Some text) (Some before) None = ⊥
 WrittenSays (Some text) None after = ⊤
 WrittenSays None before after = ⊤

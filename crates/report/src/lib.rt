@@ -12,7 +12,7 @@ mod tests;
 ghost use Rattle.std.specs.Prelude.{◌≡◌, ◌++◌, ◌≤◌, length, drop};
 ghost use Rattle.render.specs.Render.{Room, Stored};
 ghost use Rattle.report.specs.Report.{table_text, cap, fit_text};
-ghost use Rattle.report.specs.Exact.{FitSays, NoneSays, RefusedSays};
+ghost use Rattle.report.specs.Exact.{FitSays, NoneSays, ListSays, RefusedSays};
 
 use answer::{write_refused, write_result};
 pub use laws::samples;
@@ -54,6 +54,7 @@ pub fn fit_report(text: &[u8], out: &mut [u8]) -> usize
     // what is printed, in the words of sheets, tables and repairs: one of a refusal, none, spent and found
     ensures says { FitSays text.now (fit_text text.now) }
     ensures none_printed { NoneSays text.now (fit_text text.now) }
+    ensures list_printed { ListSays text.now (fit_text text.now) }
     ensures refused_printed { RefusedSays text.now (fit_text text.now) }
 {
     if MOST < text.len() {

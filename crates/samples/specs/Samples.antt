@@ -12,8 +12,8 @@ use Rattle.search.specs.declared.answer.Answer.{Answer}
 use Rattle.search.specs.declared.answer.Answer.TheVariants.{Found, None, Spent, Refused}
 use Rattle.repair.specs.Outcome.{repair_answer, repair_list}
 
--- What Repair is expected to answer, with its choices and the steps settled before the first. What it finds is given before striking and
--- as it is written, and then the price of the first of the two.
+-- What Repair is expected to answer, with its choices and the steps settled before the first. A find is given by a list of its price
+-- that strikes to what is written, by what is written, and by the price.
 pub data Expected : Type 0 where
   finds : List ℕ → List ℕ → ℕ → ℕ → ℕ → Expected
   finds_none spends : ℕ → ℕ → Expected

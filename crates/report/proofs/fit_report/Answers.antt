@@ -1,24 +1,16 @@
 -- `fit_report` meets its contract: each way out has its own text, and there is room for it.
 use Prim.Native.Nat.{ℕ, ◌≤◌}
-use mathlib.Core.Path.{◌≡◌, sym, ap, ◌∙◌}
+use mathlib.Core.Path.{◌≡◌, sym}
 use mathlib.Core.List.{List, ◌++◌}
 use lib.ListN.{length, drop}
-use Rattle.std.specs.Prelude.{Result}
-use Rattle.table.specs.declared.accepted.Accepted.{Accepted}
-use Rattle.table.specs.declared.refusal.Refusal.{Refusal}
-use Rattle.reader.specs.Read.{ReadInto}
 use Rattle.render.specs.Render.{Stored}
 use Rattle.render.proofs.Left.{room_as, stored_as}
 use Rattle.report.specs.Report.{fit_text}
-use Rattle.report.proofs.Cases.{too_long, into_text, text_into, text_room, stored_front}
+use Rattle.report.proofs.Cases.{too_long, text_is, text_room, stored_front}
 use Rattle.report.proofs.Says.{fit_says}
 use Rattle.report.proofs.Printed.{none_says, refused_says}
+use Rattle.report.proofs.ListPrinted.{list_says}
 use Rattle.report.proofs.fit_report.Goals as goal
-
--- what was read, with what is known of it
-text_is : (text : List ℕ) {r q : Result Accepted Refusal} → length text ≤ 4096 → ReadInto text r → r ≡ q
-    → into_text q ≡ fit_text text
-text_is text {r} h read e = ap into_text (sym e) ∙ sym (text_into text h r read)
 
 -- the text's own bytes are stored where there is room for them
 stored_text : (text out after : List ℕ) (next : ℕ) → 2048 ≤ length out → Stored out 0 (fit_text text) after next
@@ -52,6 +44,7 @@ returns-then-text-gt-MOST c =
       out_after = k.1;
       says = fit_says text;
       none_printed = none_says text;
+      list_printed = list_says text;
       refused_printed = refused_says text;
     }
 
@@ -65,6 +58,7 @@ returns-in-Ok c =
       out_after = k.1;
       says = fit_says text;
       none_printed = none_says text;
+      list_printed = list_says text;
       refused_printed = refused_says text;
     }
 
@@ -78,5 +72,6 @@ returns-in-Err c =
       out_after = k.1;
       says = fit_says text;
       none_printed = none_says text;
+      list_printed = list_says text;
       refused_printed = refused_says text;
     }
