@@ -78,5 +78,6 @@ module _ (T : Table) where
   -- and that of an initial state
   pub root_in : (s : ℕ) → Initial T s → Memᴰ (root_demand T s) (clauses T)
   unfolding clauses demands
-  root_in s i = Memᴰ.append_right (gates_clauses T) (Memᴰ.append_right (map (step_demand T) (below (length T.steps)) ++ (start_demand T ∷ []))
+  root_in s i = Memᴰ.append_right (gates_clauses T)
+      (Memᴰ.append_right (map (step_demand T) (below (length T.steps)) ++ (start_demand T ∷ []))
       (Memᴰ.map (root_demand T) ((in_initials s).1 i)))

@@ -23,7 +23,20 @@ use Rattle.circuit.specs.Exact.{Agrees, ModelsAreTheRepairs}
 use Rattle.circuit.proofs.Lists.{each_more, each_one, each_concat, each_map}
 use Rattle.circuit.proofs.Gate.{Holds, gate_value_lem, value_reads}
 use Rattle.circuit.proofs.Order.{variable_induction}
-use Rattle.circuit.proofs.Clauses.{clauses_of, step_demand, start_demand, root_demand, in_initials, each_clause, each_demand, gate_in, gates_in, step_in, start_in, root_in}
+use Rattle.circuit.proofs.Clauses.{
+  clauses_of,
+  step_demand,
+  start_demand,
+  root_demand,
+  in_initials,
+  each_clause,
+  each_demand,
+  gate_in,
+  gates_in,
+  step_in,
+  start_in,
+  root_in,
+}
 use Rattle.circuit.proofs.Covered.{clause_variables}
 use Rattle.circuit.proofs.Evaluate.{assignment}
 use Rattle.circuit.proofs.GatesRight.{value_right, gates_right}

@@ -40,7 +40,8 @@ pub fn node_step(
     requires i_below { i < 32 }
     requires children_below { (c : ℕ) → is_child operator c ≡ true → c < 32 }
     requires room { words_end graph.now.readers ≤ length looks.old }
-    ensures value { (w : List ℕ) → stepped rows.new w result ≡ node_step table.now.bytes.now graph.now.targets graph.now.states look i operator (memory rows.old w) }
+    ensures value { (w : List ℕ) → stepped rows.new w result
+        ≡ node_step table.now.bytes.now graph.now.targets graph.now.states look i operator (memory rows.old w) }
     ensures marked { RowsMarked graph.now.readers looks.old looks.new rows.old rows.new }
     ensures calm { result.changed ≡ false → looks.new ≡ looks.old }
 {

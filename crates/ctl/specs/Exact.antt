@@ -51,7 +51,8 @@ FormulaOfNode =
 -- holds along the fullpaths of kept steps from that state, of the sets.
 abbrev pub LevelsArePaths : Type 0
 LevelsArePaths =
-    (T : Table) → Wellformed T → (list : List ℕ) → Total T list → (f : Family) (q : Quantifier) (A B : List Bool) → length B ≡ length T.states
+    (T : Table) → Wellformed T → (list : List ℕ) → Total T list → (f : Family) (q : Quantifier) (A B : List Bool)
+    → length B ≡ length T.states
     → (s : ℕ) → Kept T list s → (has (levels f q (targets T list) (length T.states) A B) s ≡ true)
     ↔ OnPaths q (Next T list) s (Along f (λ s. has A s ≡ true) (λ s. has B s ≡ true))
 
@@ -63,4 +64,5 @@ pub record RankOrders (T : Table) : Type 0 where
 
 -- so no table has two repairs that are the cheapest, then first in rank
 abbrev pub CheapestIsUnique : Type 0
-CheapestIsUnique = (T : Table) (l m : List ℕ) → Cheapest (list_price T) (Repair T) l → Cheapest (list_price T) (Repair T) m → l ≡ m
+CheapestIsUnique = (T : Table) (l m : List ℕ) → Cheapest (list_price T) (Repair T) l
+    → Cheapest (list_price T) (Repair T) m → l ≡ m

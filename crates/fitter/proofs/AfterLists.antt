@@ -1,5 +1,5 @@
 -- What Label and Holding answer and leave.
-use Prim.Native.Nat.{ℕ, ◌≤◌}
+use Prim.Native.Nat.{ℕ}
 use mathlib.Core.Path.{◌≡◌, refl}
 use mathlib.Core.Bool.{false≢true}
 use mathlib.Core.Logic.Iff
@@ -9,28 +9,17 @@ use lib.ListN.{length}
 use Rattle.std.specs.Prelude.{Ok, Err, IsOk}
 use Rattle.table.specs.Verdict.{Verdict}
 use Rattle.table.specs.Table.{table_of}
-use Rattle.table.specs.Facts.{IsTable}
 use Rattle.table.proofs.Verdicts.{refused}
-use Rattle.ctl.specs.Kept.{IsList, Total}
 use Rattle.label.specs.Calls.{label_verdict, label_buffer, holding_answer, holding_buffer}
 use Rattle.label.proofs.Exact.{label_marks, label_unmarked}
 use Rattle.label.proofs.HeldExact.{holding_passes, holding_refuses, holding_holds, holding_untouched}
 use Rattle.label.proofs.Tests.{verdict_passes, verdict_refuses}
-use Rattle.fitter.specs.TotalWithRoom.{TotalWithRoom}
 use Rattle.fitter.specs.LentMemory.{LabelLeaves, HoldingLeaves}
 
 -- a verdict that is no refusal is the one that accepts
 pub accepts : (v : Verdict) → IsOk v ↔ (v ≡ Ok tt)
 accepts (Ok tt) = (λ e. refl, λ e. refl)
 accepts (Err r) = (λ e. absurd (false≢true e), λ e. absurd (refused r e))
-
-pub with_room : (entries room : ℕ) (table list : List ℕ)
-    → (IsTable table × IsList (table_of table) list × Total (table_of table) list × (entries ≤ room))
-    ↔ TotalWithRoom table list entries room
-with_room entries room table list = (
-  λ t. record { accepted = t.0; form = t.1; enough = t.3; total = t.2 },
-  λ t. (t.accepted, t.form, t.total, t.enough),
-)
 
 pub label_leaves : (table list before : List ℕ)
     → LabelLeaves table list (label_verdict table list (length before)) before (label_buffer table list before)
@@ -42,8 +31,7 @@ label_leaves table list before =
     record {
       refused = verdict_refuses nodes room table list v refl;
       untouched = label_unmarked table list before after refl v refl;
-      answered = Iff.trans (accepts v)
-          (Iff.trans (verdict_passes nodes room table list v refl) (with_room nodes room table list));
+      answered = Iff.trans (accepts v) (verdict_passes nodes room table list v refl);
       written = label_marks table list before after refl v refl;
     }
 
@@ -55,7 +43,6 @@ holding_leaves table list before =
     record {
       refused = holding_refuses table list before after refl answer refl;
       untouched = holding_untouched table list before after refl answer refl;
-      answered = Iff.trans (holding_passes table list before after refl answer refl)
-          (with_room (length (table_of table).states) (length before) table list);
+      answered = holding_passes table list before after refl answer refl;
       written = holding_holds table list before after refl answer refl;
     }

@@ -61,7 +61,8 @@ module _ (table : List ℕ) (cap : ℕ) (list bytes words : List ℕ) where
       let long = just.0 (subst (λ (a : Answer). IfRefused a (λ r. ⊥)) (sym e) tt) in
       let right = every_repair_is_right table cap list bytes words long in
       let front = take (length T.steps) list' in
-      let size : length front ≡ length T.steps = length-take-le (length T.steps) list' (omega (arith, right.rest_stays.0, long.list_long)) in (
+      let size : length front ≡ length T.steps =
+      length-take-le (length T.steps) list' (omega (arith, right.rest_stays.0, long.list_long)) in (
         front,
         subst (λ (a : Answer). IfFound a (λ price. FoundList T price front)) e right.cheapest,
         record {

@@ -7,7 +7,22 @@ use mathlib.Core.Option.{Option, none as nothing, some}
 use native.Mathlib.Omega.{arith}
 use lib.ListN.{get_or}
 use Rattle.table.specs.declared.refusal.Refusal.{Refusal}
-use Rattle.table.specs.declared.refusal.Refusal.TheVariants.{SheetForm, Length, Counts, StateRecord, NoInitial, StepEnd, RepeatedStep, NodeRecord, ListForm, ShortBuffer, NotTotal, NoInitialKept, RootFails, UnreachedStep}
+use Rattle.table.specs.declared.refusal.Refusal.TheVariants.{
+  SheetForm,
+  Length,
+  Counts,
+  StateRecord,
+  NoInitial,
+  StepEnd,
+  RepeatedStep,
+  NodeRecord,
+  ListForm,
+  ShortBuffer,
+  NotTotal,
+  NoInitialKept,
+  RootFails,
+  UnreachedStep,
+}
 use Rattle.table.specs.Verdict.{refusal_number}
 use Rattle.search.specs.declared.answer.Answer.{Answer}
 use Rattle.search.specs.declared.answer.Answer.TheVariants.{Found, None, Spent, Refused}

@@ -8,7 +8,7 @@ use Rattle.sets.specs.Member.{member}
 use Rattle.table.specs.Table.{table_of}
 use Rattle.ctl.specs.Kept.{Kept, NodeHolds}
 use Rattle.label.specs.Calls.{label_verdict, label_buffer}
-use Rattle.fitter.specs.TotalWithRoom.{TotalWithRoom}
+use Rattle.label.specs.TotalWithRoom.{TotalWithRoom}
 
 -- of a table and a total list for it, and a buffer that has room for a word for each node
 pub record LabelMeansCtl (table list buffer : List ℕ) : Type 0 where

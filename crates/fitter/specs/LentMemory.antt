@@ -23,7 +23,7 @@ use Rattle.repair.specs.Outcome.{repair_answer, repair_list, repair_bytes, repai
 use Rattle.repair.specs.Refused.{RepairRefused}
 use Rattle.repair.specs.Right.{LongEnough, FoundList}
 use Rattle.fitter.specs.Numbers.{NumbersTell}
-use Rattle.fitter.specs.TotalWithRoom.{TotalWithRoom}
+use Rattle.label.specs.TotalWithRoom.{TotalWithRoom}
 
 -- Repair, with its list and its two work buffers before and after
 module _ (table : List ℕ) (cap : ℕ) (answer : Answer) (list bytes words list' bytes' words' : List ℕ) where

@@ -2,4 +2,3 @@ pub mod LentMemory
 pub mod LabelsMeanCtl
 pub mod Numbers
 pub mod RepairerAndJudge
-pub mod TotalWithRoom

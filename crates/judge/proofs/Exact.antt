@@ -13,7 +13,8 @@ use Rattle.ctl.specs.Tests.{judge_verdict}
 use Rattle.ctl.proofs.Refused.{judge_exact, judge_refused}
 
 module _ (table list : List ℕ) where
-  pub verdict_exact : (v : Verdict) → v ≡ judge_verdict table list → (v ≡ Ok tt) ↔ (IsTable table × NarrowRepair (table_of table) list)
+  pub verdict_exact : (v : Verdict) → v ≡ judge_verdict table list → (v ≡ Ok tt)
+      ↔ (IsTable table × NarrowRepair (table_of table) list)
   verdict_exact v e = (λ ok. (judge_exact table list).0 (sym e ∙ ok), λ h. e ∙ (judge_exact table list).1 h)
 
   pub verdict_refuses : (v : Verdict) → v ≡ judge_verdict table list → IfErr v (JudgeRefused table list)

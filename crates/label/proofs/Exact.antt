@@ -92,7 +92,8 @@ module _ (table list buffer : List ℕ) (ok : label_verdict table list (length b
 
 -- the same of an answer that is the verdict, and a buffer that is the one after it
 module _ (table list before after : List ℕ) (now : after ≡ label_buffer table list before) where
-  pub label_marks : (v : Verdict) → v ≡ label_verdict table list (length before) → OnOk v (LabelIsExact (table_of table) list before after)
+  pub label_marks : (v : Verdict) → v ≡ label_verdict table list (length before)
+      → OnOk v (LabelIsExact (table_of table) list before after)
   label_marks (Ok tt) e = rw now (label_exact table list before (sym e))
   label_marks (Err r) e = tt
 

@@ -1,5 +1,5 @@
 -- Holding's bytes are the kept states at which the root holds, in reading order, and a refusal leaves the buffer as it was.
-use Prim.Native.Nat.{ℕ, ◌≤◌}
+use Prim.Native.Nat.{ℕ}
 use mathlib.Core.Path.{◌≡◌, refl, sym, ap, subst, ◌∙◌}
 use mathlib.Core.Bool.{true, false≢true}
 use mathlib.Core.Logic.{◌↔◌}
@@ -12,18 +12,19 @@ use Rattle.std.specs.Prelude.{Result, Ok, Err, IsOk, IfOk, IfErr, OnErr}
 use Rattle.table.specs.declared.refusal.Refusal.{Refusal}
 use Rattle.table.specs.Verdict.{Verdict}
 use Rattle.table.specs.Table.{Table, table_of}
-use Rattle.table.specs.Facts.{IsTable, Wellformed}
+use Rattle.table.specs.Facts.{Wellformed}
 use Rattle.table.specs.Buffer.{on_accepted, Written}
 use Rattle.table.proofs.Facts.{accepted}
 use Rattle.table.proofs.Buffer.{front_written}
 use Rattle.table.proofs.Verdicts.{refused}
 use Rattle.ctl.specs.Rule.{root_index}
-use Rattle.ctl.specs.Kept.{IsList, Total}
+use Rattle.ctl.specs.Kept.{Total}
 use Rattle.ctl.specs.Labels.{marked}
 use Rattle.ctl.specs.Refused.{ListRefused}
 use Rattle.ctl.proofs.Meaning.{labels_are_meaning}
 use Rattle.ctl.proofs.Repair.{is-total}
 use Rattle.label.specs.Calls.{held_states, holding_verdict, holding_at, holding_answer, holding_buffer}
+use Rattle.label.specs.TotalWithRoom.{TotalWithRoom}
 use Rattle.label.specs.Exact.{RootHolds, RootStates, HoldingIsExact}
 use Rattle.label.proofs.Held.{held_in_order, held_once, held-member, held_few, held-only}
 use Rattle.label.proofs.Order.{table_accepted, room_accepted, total_accepted}
@@ -72,14 +73,16 @@ module _ (table list before after : List ℕ) (now : after ≡ holding_buffer ta
       }
 
   -- by the verdict, of the answer that it makes
-  passes_at : (v : Verdict) → verdict ≡ v → IsOk (holding_at v (length held)) ↔ (IsTable table × IsList T list × Total T list × (length T.states ≤ length before))
+  passes_at : (v : Verdict) → verdict ≡ v
+      → IsOk (holding_at v (length held)) ↔ TotalWithRoom table list (length T.states) (length before)
   passes_at (Ok tt) is = (λ told. (tests_pass (length T.states) (length before) table list).0 is, λ h. refl)
   passes_at (Err r) is = (
     λ told. absurd (false≢true told),
     λ h. absurd (refused r (sym is ∙ (tests_pass (length T.states) (length before) table list).1 h)),
   )
 
-  refuses_at : (v : Verdict) → verdict ≡ v → IfErr (holding_at v (length held)) (ListRefused (length T.states) (length before) table list)
+  refuses_at : (v : Verdict) → verdict ≡ v
+      → IfErr (holding_at v (length held)) (ListRefused (length T.states) (length before) table list)
   refuses_at (Ok tt) is = tt
   refuses_at (Err r) is = tests_refuse (length T.states) (length before) table list r is
 
@@ -93,7 +96,7 @@ module _ (table list before after : List ℕ) (now : after ≡ holding_buffer ta
 
   -- of an answer that is this one
   module _ (answer : Result ℕ Refusal) (told : answer ≡ holding_answer table list (length before)) where
-    pub holding_passes : IsOk answer ↔ (IsTable table × IsList T list × Total T list × (length T.states ≤ length before))
+    pub holding_passes : IsOk answer ↔ TotalWithRoom table list (length T.states) (length before)
     holding_passes = rw told (passes_at verdict refl)
 
     pub holding_refuses : IfErr answer (ListRefused (length T.states) (length before) table list)

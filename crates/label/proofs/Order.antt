@@ -17,7 +17,8 @@ use Rattle.ctl.specs.Tests.{is_total}
 use Rattle.label.specs.Analysis.{analysis_verdict}
 
 -- a list of the form is as long as the steps
-pub form_length : (table list : List ℕ) → list_verdict (length (table_of table).steps) list ≡ Ok tt → length list ≡ length (table_of table).steps
+pub form_length : (table list : List ℕ) → list_verdict (length (table_of table).steps) list ≡ Ok tt
+    → length list ≡ length (table_of table).steps
 unfolding list_verdict
 form_length table list ok = eqb-true (length list) (length (table_of table).steps) (and_parts _ _ (require_accepted ListForm _ ok)).0
 

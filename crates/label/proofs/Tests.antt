@@ -10,20 +10,34 @@ use lib.Dec.{leb}
 use lib.ListN.{length}
 use Rattle.std.specs.Prelude.{Ok, Err, IfErr}
 use Rattle.table.specs.declared.refusal.Refusal.{Refusal}
-use Rattle.table.specs.declared.refusal.Refusal.TheVariants.{SheetForm, Length, Counts, StateRecord, NoInitial, StepEnd, RepeatedStep, NodeRecord, ListForm, ShortBuffer, NotTotal, NoInitialKept, RootFails, UnreachedStep}
+use Rattle.table.specs.declared.refusal.Refusal.TheVariants.{
+  SheetForm,
+  Length,
+  Counts,
+  StateRecord,
+  NoInitial,
+  StepEnd,
+  RepeatedStep,
+  NodeRecord,
+  ListForm,
+  ShortBuffer,
+  NotTotal,
+  NoInitialKept,
+  RootFails,
+  UnreachedStep,
+}
 use Rattle.table.specs.Verdict.{Verdict, require}
 use Rattle.table.specs.Table.{Table, table_of}
 use Rattle.table.specs.Accept.{table_verdict, list_verdict}
-use Rattle.table.specs.Facts.{IsTable}
 use Rattle.table.specs.Refused.{TableRefused}
 use Rattle.table.proofs.Verdicts.{require_accepted, accepted_require, accepted_then}
 use Rattle.table.proofs.Refused.{is_table, table_refused}
-use Rattle.ctl.specs.Kept.{IsList, Total}
 use Rattle.ctl.specs.Refused.{ListRefused}
 use Rattle.ctl.specs.Tests.{is_total}
 use Rattle.ctl.proofs.Repair.{is_list, is-total}
 use Rattle.ctl.proofs.Refused.{by_first, by_test, by_form, not_so}
 use Rattle.label.specs.Analysis.{analysis_verdict}
+use Rattle.label.specs.TotalWithRoom.{TotalWithRoom}
 use Rattle.label.proofs.Order.{table_accepted, list_accepted, room_accepted, total_accepted}
 
 module _ (entries room : ℕ) (table list : List ℕ) where
@@ -34,24 +48,25 @@ module _ (entries room : ℕ) (table list : List ℕ) where
   P = ListRefused entries room table list
 
   -- all tests pass
-  pub tests_pass : (analysis_verdict (leb entries room) table list ≡ Ok tt) ↔ (IsTable table × IsList T list × Total T list × (entries ≤ room))
+  pub tests_pass : (analysis_verdict (leb entries room) table list ≡ Ok tt) ↔ TotalWithRoom table list entries room
   unfolding analysis_verdict
   tests_pass = (there, back)
     where
-      there : analysis_verdict (leb entries room) table list ≡ Ok tt → IsTable table × IsList T list × Total T list × (entries ≤ room)
-      there ok = (
-        (is_table table).0 (table_accepted _ table list ok),
-        (is_list T list).0 (list_accepted _ table list ok),
-        (is-total T list).0 (total_accepted _ table list ok),
-        leb-true entries room (room_accepted _ table list ok),
-      )
+      there : analysis_verdict (leb entries room) table list ≡ Ok tt → TotalWithRoom table list entries room
+      there ok = record {
+        accepted = (is_table table).0 (table_accepted _ table list ok);
+        form = (is_list T list).0 (list_accepted _ table list ok);
+        enough = leb-true entries room (room_accepted _ table list ok);
+        total = (is-total T list).0 (total_accepted _ table list ok);
+      }
 
-      back : IsTable table × IsList T list × Total T list × (entries ≤ room) → analysis_verdict (leb entries room) table list ≡ Ok tt
+      back : TotalWithRoom table list entries room → analysis_verdict (leb entries room) table list ≡ Ok tt
       back h =
-          accepted_then (table_verdict table) _ ((is_table table).1 h.0)
-          (accepted_then (list_verdict (length T.steps) list) _ ((is_list T list).1 h.1)
-          (accepted_then (require ShortBuffer (leb entries room)) _ (accepted_require ShortBuffer _ (le-leb entries room h.3))
-          (accepted_require NotTotal _ ((is-total T list).1 h.2))))
+          accepted_then (table_verdict table) _ ((is_table table).1 h.accepted)
+          (accepted_then (list_verdict (length T.steps) list) _ ((is_list T list).1 h.form)
+          (accepted_then (require ShortBuffer (leb entries room)) _
+          (accepted_require ShortBuffer _ (le-leb entries room h.enough))
+          (accepted_require NotTotal _ ((is-total T list).1 h.total))))
 
   of_table : (r : Refusal) → TableRefused table r → P r
   of_table SheetForm x = x
@@ -86,7 +101,7 @@ module _ (entries room : ℕ) (table list : List ℕ) where
 
   -- the same of an answer that is the verdict
   module _ (v : Verdict) (e : v ≡ analysis_verdict (leb entries room) table list) where
-    pub verdict_passes : (v ≡ Ok tt) ↔ (IsTable table × IsList T list × Total T list × (entries ≤ room))
+    pub verdict_passes : (v ≡ Ok tt) ↔ TotalWithRoom table list entries room
     verdict_passes = (λ ok. tests_pass.0 (sym e ∙ ok), λ h. e ∙ tests_pass.1 h)
 
   pub verdict_refuses : (v : Verdict) → v ≡ analysis_verdict (leb entries room) table list → IfErr v P

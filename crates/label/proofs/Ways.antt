@@ -36,6 +36,7 @@ module _ (room : Room) (table list : List ℕ) where
   way_refused r e = refused verdict (sets_of (table_of table) list) r e
 
 -- an analysis of the same bytes under another name
-pub analysis_moved : (room : Room) (list bytes table : List ℕ) → bytes ≡ table → (x : Result Analysis Refusal) → x ≡ analysis_of room bytes list
+pub analysis_moved : (room : Room) (list bytes table : List ℕ) → bytes ≡ table → (x : Result Analysis Refusal)
+    → x ≡ analysis_of room bytes list
     → x ≡ analysis_of room table list
 analysis_moved room list bytes table same x e = e ∙ ap (λ (b : List ℕ). analysis_of room b list) same

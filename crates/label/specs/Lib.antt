@@ -3,3 +3,4 @@ pub mod Analysis
 pub mod ReadingOrder
 pub mod Calls
 pub mod Exact
+pub mod TotalWithRoom

@@ -1,13 +1,12 @@
 // Holding: the states of the root's set.
 ghost use Rattle.std.specs.Prelude.{◌≡◌, ◌↔◌, ◌≤◌, ◌++◌, IsOk, IfOk, IfErr, OnErr, length, drop};
 ghost use Rattle.table.specs.Table.{table_of};
-ghost use Rattle.table.specs.Facts.{IsTable};
-ghost use Rattle.ctl.specs.Kept.{IsList, Total};
 ghost use Rattle.ctl.specs.Refused.{ListRefused};
 ghost use Rattle.sets.specs.Member.{member};
 ghost use Rattle.ctl.specs.Levels.{below};
 ghost use Rattle.label.specs.ReadingOrder.{reading_order, states_with};
 ghost use Rattle.label.specs.Calls.{holding_answer, holding_buffer};
+ghost use Rattle.label.specs.TotalWithRoom.{TotalWithRoom};
 ghost use Rattle.label.specs.Exact.{HoldingIsExact};
 
 use crate::analysis::analyse;
@@ -40,12 +39,7 @@ fn write_states(set: u32, initial: u32, out: &mut [u8])
 pub fn holding_states(table: &[u8], list: &[u8], out: &mut [u8]) -> Result<u32, Refusal>
     ensures value { result ≡ holding_answer table.now list.now (length out.old) }
     ensures out_after { out.new ≡ holding_buffer table.now list.now out.old }
-    ensures accepted { IsOk result ↔ (
-        IsTable table.now
-        × IsList (table_of table.now) list.now
-        × Total (table_of table.now) list.now
-        × (length (table_of table.now).states ≤ length out.old)
-        ) }
+    ensures accepted { IsOk result ↔ TotalWithRoom table.now list.now (length (table_of table.now).states) (length out.old) }
     ensures refused { IfErr result (ListRefused (length (table_of table.now).states) (length out.old) table.now list.now) }
     ensures states { IfOk result (λ count. HoldingIsExact (table_of table.now) list.now count out.old out.new) }
     ensures untouched { OnErr result (out.new ≡ out.old) }

@@ -1,10 +1,9 @@
 // Label: the set of each node, written into lent words.
-ghost use Rattle.std.specs.Prelude.{◌≡◌, ◌↔◌, ◌≤◌, Ok, IfErr, OnOk, OnErr, length};
+ghost use Rattle.std.specs.Prelude.{◌≡◌, ◌↔◌, Ok, IfErr, OnOk, OnErr, length};
 ghost use Rattle.table.specs.Table.{table_of};
-ghost use Rattle.table.specs.Facts.{IsTable};
-ghost use Rattle.ctl.specs.Kept.{IsList, Total};
 ghost use Rattle.ctl.specs.Refused.{ListRefused};
 ghost use Rattle.label.specs.Calls.{label_verdict, label_buffer};
+ghost use Rattle.label.specs.TotalWithRoom.{TotalWithRoom};
 ghost use Rattle.label.specs.Exact.{LabelIsExact};
 
 use crate::analysis::analyse;
@@ -15,12 +14,7 @@ use table::{Accepted, Refusal};
 pub fn label_nodes(table: &[u8], list: &[u8], out: &mut [u32]) -> Result<(), Refusal>
     ensures value { result ≡ label_verdict table.now list.now (length out.old) }
     ensures out_after { out.new ≡ label_buffer table.now list.now out.old }
-    ensures accepted { (result ≡ Ok tt) ↔ (
-        IsTable table.now
-        × IsList (table_of table.now) list.now
-        × Total (table_of table.now) list.now
-        × (length (table_of table.now).nodes ≤ length out.old)
-        ) }
+    ensures accepted { (result ≡ Ok tt) ↔ TotalWithRoom table.now list.now (length (table_of table.now).nodes) (length out.old) }
     ensures refused { IfErr result (ListRefused (length (table_of table.now).nodes) (length out.old) table.now list.now) }
     ensures marks { OnOk result (LabelIsExact (table_of table.now) list.now out.old out.new) }
     ensures untouched { OnErr result (out.new ≡ out.old) }

@@ -61,7 +61,8 @@ not_both : {w : Verdict} {r : Refusal} → w ≡ Ok tt → w ≡ Err r → ⊥
 not_both {r = r} p q = refused r (sym q ∙ p)
 
 -- 580 bytes are room enough
-pub room_enough : (text : List ℕ) (v : Sheet) → parse text ≡ some v → table_verdict (pack v) ≡ Ok tt → read_verdict text 580 ≡ Ok tt
+pub room_enough : (text : List ℕ) (v : Sheet) → parse text ≡ some v → table_verdict (pack v) ≡ Ok tt
+    → read_verdict text 580 ≡ Ok tt
 room_enough text v e h = accepted_read text 580 v e h (accepted (pack v) h).short
 
 module _ (text : List ℕ) where
@@ -83,7 +84,8 @@ module _ (text : List ℕ) where
       go (no_sheet e) =
           let nothing : ¬ IsSheet text = λ s. (let p = (sheet_parses text).0 s in none_some p.0 (sym e ∙ p.1)) in
           subst (TextRefused text) (one_refusal (not_of_form text 580 e) h) nothing
-      go (bad v e q t) = subst (TextRefused text) (one_refusal (table_refused text 580 v e q t) h) (by_refusal v e q (why_refused (pack v) q t))
+      go (bad v e q t) = subst (TextRefused text) (one_refusal (table_refused text 580 v e q t) h)
+          (by_refusal v e q (why_refused (pack v) q t))
       go (good v e t) = absurd (not_both (room_enough text v e t) h)
 
   -- and it is the refusal in any room, never 10
@@ -137,7 +139,8 @@ module _ (text : List ℕ) where
     pub has_room : (room : ℕ) → length table ≤ room → read_verdict text room ≡ Ok tt
     has_room room l = accepted_read text room v form (found_good h).2 (subst (λ (t : List ℕ). length t ≤ room) packed_is l)
 
-    pub exact : (before : List ℕ) → length table ≤ length before → ReadIsExact text (length table) before (table ++ drop (length table) before)
+    pub exact : (before : List ℕ) → length table ≤ length before
+        → ReadIsExact text (length table) before (table ++ drop (length table) before)
     exact before l = record {
       table = table;
       sheet = the_sheet;
@@ -168,7 +171,8 @@ module _ (text : List ℕ) where
               | no long ↦ (pack v, sheet_of_parsed v e, (is_table (pack v)).0 t, omega (arith, long))
             ]
 
-    pub accepted_just : (w : Verdict) → read_verdict text room ≡ w → (table : List ℕ) → IsOk (answer w table) ↔ Readable text room
+    pub accepted_just : (w : Verdict) → read_verdict text room ≡ w → (table : List ℕ) → IsOk (answer w table)
+        ↔ Readable text room
     accepted_just (Ok tt) h table = (λ ok. read_back h, λ r. refl)
     accepted_just (Err r) h table = (λ ok. absurd (false≢true ok), λ x. absurd (refused r (sym h ∙ readable x)))
 
@@ -186,6 +190,7 @@ pub into_refused : (text : List ℕ) (r : Result Accepted Refusal) → ReadInto 
 into_refused text (Ok a) h = tt
 into_refused text (Err r) h = text_refused text r h
 
-pub into_packed : (text : List ℕ) (r : Result Accepted Refusal) → ReadInto text r → IfOk r (λ table. SheetOf text table.bytes.now × IsTable table.bytes.now)
+pub into_packed : (text : List ℕ) (r : Result Accepted Refusal) → ReadInto text r
+    → IfOk r (λ table. SheetOf text table.bytes.now × IsTable table.bytes.now)
 into_packed text (Ok a) h = (the_sheet text h.0 h.1, the_table text h.0 h.1)
 into_packed text (Err r) h = tt

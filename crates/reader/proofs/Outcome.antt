@@ -26,7 +26,8 @@ module _ (text out : List ℕ) where
   abbrev pub Outcome : Answer → List ℕ → Type 0
   Outcome r after = (r ≡ read_answer text out) × (after ≡ read_buffer text out)
 
-  pub answered : (w : Verdict) → read_verdict text (length out) ≡ w → (t : List ℕ) → packed (parse text) ≡ t → Outcome (answer w t) (buffer w t out)
+  pub answered : (w : Verdict) → read_verdict text (length out) ≡ w → (t : List ℕ) → packed (parse text) ≡ t
+      → Outcome (answer w t) (buffer w t out)
   answered w h t e = (λ i. answer (sym h i) (sym e i), λ i. buffer (sym h i) (sym e i) out)
 
 module _ (text : List ℕ) (room : ℕ) where
@@ -49,11 +50,13 @@ module _ (text : List ℕ) (room : ℕ) where
 
     -- a table that does not fit the lent buffer
     pub too_short : table_verdict (pack v) ≡ Ok tt → room < length (pack v) → read_verdict text room ≡ Err ShortBuffer
-    too_short h l = of_sheet (Err ShortBuffer) (then_next (table_verdict (pack v)) test_10 h ∙ ap (require ShortBuffer) (lt-leb (length (pack v)) room l))
+    too_short h l = of_sheet (Err ShortBuffer)
+        (then_next (table_verdict (pack v)) test_10 h ∙ ap (require ShortBuffer) (lt-leb (length (pack v)) room l))
 
     -- an accepted table that fits
     pub accepted_read : table_verdict (pack v) ≡ Ok tt → length (pack v) ≤ room → read_verdict text room ≡ Ok tt
-    accepted_read h l = of_sheet (Ok tt) (then_next (table_verdict (pack v)) test_10 h ∙ ap (require ShortBuffer) (le-leb (length (pack v)) room l))
+    accepted_read h l = of_sheet (Ok tt)
+        (then_next (table_verdict (pack v)) test_10 h ∙ ap (require ShortBuffer) (le-leb (length (pack v)) room l))
 
 -- a length is answered where every test passed
 pub length_back : (v : Verdict) (table : List ℕ) (k : ℕ) → answer v table ≡ Ok k → (v ≡ Ok tt) × (length table ≡ k)

@@ -7,8 +7,9 @@ use Rattle.reader.specs.Read.{packed, read_verdict}
 
 abbrev pub text : List ℕ
 text =
-    ascii
-    "states edges nodes props\n3 4 5 1\ninitial label\n1 0\n0 1\n0 1\nfrom to price\n0 1 1\n1 0 2\n1 2 3\n2 2 4\nkind a b\n0 0 0\n2 0 0\n9 0 1\n3 2 0\n8 0 3\n"
+    ascii "states edges nodes props\n3 4 5 1\ninitial label\n1 0\n0 1\n0 1\n"
+    ++ ascii "from to price\n0 1 1\n1 0 2\n1 2 3\n2 2 4\n"
+    ++ ascii "kind a b\n0 0 0\n2 0 0\n9 0 1\n3 2 0\n8 0 3\n"
 
 abbrev pub table : List ℕ
 table =

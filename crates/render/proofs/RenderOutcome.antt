@@ -55,7 +55,8 @@ no_table table room ShortBuffer t = absurd t
 no_table table room r t = t
 
 -- a sheet of k bytes that was written
-pub exact : (table : List ℕ) → Bytes table → IsTable table → (before : List ℕ) {k : ℕ} → k ≡ length (render (sheet_of table)) → length (render (sheet_of table)) ≤ length before
+pub exact : (table : List ℕ) → Bytes table → IsTable table → (before : List ℕ) {k : ℕ}
+    → k ≡ length (render (sheet_of table)) → length (render (sheet_of table)) ≤ length before
     → RenderIsExact table k before (render (sheet_of table) ++ drop (length (render (sheet_of table))) before)
 exact table b is before size fits =
     record {

@@ -119,7 +119,8 @@ module _ (l : List ℕ) (b : Bytes l) (is : IsTable l) where
   -- into a buffer that is long enough: the length and the table come back
   pub read_rendered : (out : List ℕ) → length l ≤ length out → (read_answer (render (sheet_of l)) out ≡ Ok (length l)) × (read_buffer (render (sheet_of l)) out ≡ l ++ drop (length l) out)
   read_rendered out h =
-      let v = accepted_read (render (sheet_of l)) (length out) (sheet_of l) parse-rendered (ap table_verdict same ∙ accepted) (omega (arith, ap length same)) in
+      let v = accepted_read (render (sheet_of l)) (length out) (sheet_of l) parse-rendered
+      (ap table_verdict same ∙ accepted) (omega (arith, ap length same)) in
       let o = answered (render (sheet_of l)) out (Ok tt) v l (ap packed parse-rendered ∙ same) in
       (sym o.0, sym o.1)
 

@@ -9,14 +9,38 @@ use lib.ListN.{length}
 use lib.Dec.{leb, eqb}
 use Rattle.std.specs.Prelude.{Err}
 use Rattle.table.specs.declared.refusal.Refusal.{Refusal}
-use Rattle.table.specs.declared.refusal.Refusal.TheVariants.{SheetForm, Length, Counts as CountsRefused, StateRecord, NoInitial, StepEnd, RepeatedStep, NodeRecord, ListForm, ShortBuffer, NotTotal, NoInitialKept, RootFails, UnreachedStep}
+use Rattle.table.specs.declared.refusal.Refusal.TheVariants.{
+  SheetForm,
+  Length,
+  Counts as CountsRefused,
+  StateRecord,
+  NoInitial,
+  StepEnd,
+  RepeatedStep,
+  NodeRecord,
+  ListForm,
+  ShortBuffer,
+  NotTotal,
+  NoInitialKept,
+  RootFails,
+  UnreachedStep,
+}
 use Rattle.table.specs.Verdict.{Verdict, require, ◌then◌}
 use Rattle.table.specs.Table.{Table, table_of, counts_of, packed_length, header_width}
 use Rattle.table.specs.Accept.{all, any, distinct, counts_fit, state_fits, is_initial, step_fits, nodes_fit, records_verdict, table_verdict}
 use Rattle.table.specs.Refused.{RightLength, StatesFit, SomeInitial, TableRefused}
 use Rattle.table.proofs.Bools.{not_so}
 use Rattle.table.proofs.Verdicts.{then_assoc}
-use Rattle.table.proofs.Decided.{at_most_decided, same_decided, counts_decided, states_decided, initial_decided, ends_decided, distinct_decided, nodes_decided}
+use Rattle.table.proofs.Decided.{
+  at_most_decided,
+  same_decided,
+  counts_decided,
+  states_decided,
+  initial_decided,
+  ends_decided,
+  distinct_decided,
+  nodes_decided,
+}
 
 -- a test that holds leaves the verdict to the next one
 passes : (q : Refusal) (b : Bool) (w v : Verdict) → b ≡ true → w ≡ v → require q b then w ≡ v

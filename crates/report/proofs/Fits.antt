@@ -26,7 +26,19 @@ use Rattle.reader.specs.Read.{packed, read_verdict}
 use Rattle.render.proofs.Number.{low_length}
 use Rattle.render.proofs.Bounds.{more_digits, ended-length}
 use Rattle.repair.specs.Outcome.{repair_verdict, answer_at, repair_list}
-use Rattle.report.specs.Report.{refused, kept_line, kept_lines, answer_text, zeros, cap, table_text, verdict_text, limited, text_under, fit_text}
+use Rattle.report.specs.Report.{
+  refused,
+  kept_line,
+  kept_lines,
+  answer_text,
+  zeros,
+  cap,
+  table_text,
+  verdict_text,
+  limited,
+  text_under,
+  fit_text,
+}
 use Rattle.report.proofs.Accepted.{read_accepted, read_prices}
 use Rattle.report.proofs.Bits.{Bits, bits_zeros, list_bits}
 use Rattle.report.proofs.AtMost.{price, choices_few, price_few}
@@ -104,7 +116,8 @@ answer-length : (table : List ℕ) (v : Verdict) (o : Outcome) (list : List ℕ)
 answer-length table (Ok tt) o list few cheap short = outcome_length table o list few cheap short
 answer-length table (Err r) o list few cheap short = refused-length r
 
-table_length : (table : List ℕ) → table_verdict table ≡ Ok tt → ((j : ℕ) → (step_at (table_of table) j).price ≤ 255) → length (table_text cap table) ≤ 1078
+table_length : (table : List ℕ) → table_verdict table ≡ Ok tt → ((j : ℕ) → (step_at (table_of table) j).price ≤ 255)
+    → length (table_text cap table) ≤ 1078
 unfolding table_text
 table_length table ok bytes =
     let T = table_of table in

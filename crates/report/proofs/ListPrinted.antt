@@ -25,7 +25,8 @@ got_same : (x y : ℕ) (r s : List ℕ) → ◌≡◌ {A = Parsed ℕ} (got x r)
 got_same x y r s e = (cc, cc)
 
 -- a value and the byte behind it are told apart from any other, whatever follows
-field_same : (stop : ℕ) → stop < 48 → (x y : ℕ) (r s : List ℕ) → ended stop x ++ r ≡ ended stop y ++ s → (x ≡ y) × (r ≡ s)
+field_same : (stop : ℕ) → stop < 48 → (x y : ℕ) (r s : List ℕ) → ended stop x ++ r ≡ ended stop y ++ s
+    → (x ≡ y) × (r ≡ s)
 field_same stop low x y r s e =
     let max = 9 + (x + y) in
     let exact = field_exact max stop (omega arith) low in
@@ -67,7 +68,8 @@ lines_same (x ∷ steps) (k ∷ l) (j ∷ m) p q e =
     λ i. first.0 i ∷ rest i
 
 -- the whole text
-found_same : (table : List ℕ) (p q c d : ℕ) (l m : List ℕ) → length l ≡ length (steps_of table) → length m ≡ length (steps_of table)
+found_same : (table : List ℕ) (p q c d : ℕ) (l m : List ℕ) → length l ≡ length (steps_of table)
+    → length m ≡ length (steps_of table)
     → found_text table p c l ≡ found_text table q d m → (p ≡ q) × (l ≡ m)
 found_same table p q c d l m h k e =
     let numbers = two_same c p d q _ _ (append_cancel_left (ascii "answer choices price\nfound ") _ _ e) in
@@ -78,12 +80,15 @@ one_table : (text t u : List ℕ) → SheetOf text t → SheetOf text u → t �
 one_table text t u (v, range, is_text, same) (w, range', is_text', same') =
     same ∙ ap pack (render_injective v w range range' (sym is_text ∙ is_text')) ∙ sym same'
 
-module _ (text table : List ℕ) (fits : FitTable text table) (p c : ℕ) (list : List ℕ) (size : length list ≡ length (table_of table).steps) where
-  by_table : (printed : List ℕ) → printed ≡ found_text table p c list → TableSays cap table printed → FoundList (table_of table) p list
+module _ (text table : List ℕ) (fits : FitTable text table) (p c : ℕ) (list : List ℕ)
+    (size : length list ≡ length (table_of table).steps) where
+  by_table : (printed : List ℕ) → printed ≡ found_text table p c list → TableSays cap table printed
+      → FoundList (table_of table) p list
   by_table printed e (inl of_none) = differ _ _ 21 110 102 refl refl (omega arith) (sym of_none.text ∙ e)
   by_table printed e (inr (inl of_spent)) = differ _ _ 21 115 102 refl refl (omega arith) (sym of_spent.text ∙ e)
   by_table printed e (inr (inr of_found)) =
-      let same = found_same table of_found.price p _ c of_found.list list of_found.found.narrow.repair.form.size size (sym of_found.text ∙ e) in
+      let same = found_same table of_found.price p _ c of_found.list list of_found.found.narrow.repair.form.size size
+      (sym of_found.text ∙ e) in
       subst₂ (FoundList (table_of table)) same.0 same.1 of_found.found
 
   by_says : fit_text text ≡ found_text table p c list → FitSays text (fit_text text) → FoundList (table_of table) p list

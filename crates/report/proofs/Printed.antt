@@ -11,7 +11,22 @@ use lib.Dec.{eqb}
 use lib.ListN.{length, get_or}
 use Rattle.std.specs.Prelude.{Ok, Err}
 use Rattle.table.specs.declared.refusal.Refusal.{Refusal}
-use Rattle.table.specs.declared.refusal.Refusal.TheVariants.{SheetForm, Length, Counts, StateRecord, NoInitial, StepEnd, RepeatedStep, NodeRecord, ListForm, ShortBuffer, NotTotal, NoInitialKept, RootFails, UnreachedStep}
+use Rattle.table.specs.declared.refusal.Refusal.TheVariants.{
+  SheetForm,
+  Length,
+  Counts,
+  StateRecord,
+  NoInitial,
+  StepEnd,
+  RepeatedStep,
+  NodeRecord,
+  ListForm,
+  ShortBuffer,
+  NotTotal,
+  NoInitialKept,
+  RootFails,
+  UnreachedStep,
+}
 use Rattle.table.specs.Table.{table_of}
 use Rattle.table.specs.Accept.{table_verdict}
 use Rattle.table.specs.Facts.{IsTable}
@@ -74,7 +89,8 @@ same_refusal q r e = sym (told q) ∙ ap refusal_in e ∙ told r
 
 -- ---- a byte in which two texts differ
 
-pub differ : {A : Type 0} (xs ys : List ℕ) (at x y : ℕ) → get_or xs at 0 ≡ x → get_or ys at 0 ≡ y → ¬ (x ≡ y) → xs ≡ ys → A
+pub differ : {A : Type 0} (xs ys : List ℕ) (at x y : ℕ) → get_or xs at 0 ≡ x → get_or ys at 0 ≡ y → ¬ (x ≡ y)
+    → xs ≡ ys → A
 differ xs ys at x y p q n e = absurd (n (sym p ∙ ap (λ (l : List ℕ). get_or l at 0) e ∙ q))
 
 -- no text of a table is that of a refusal: at 7 they name the choices and the number

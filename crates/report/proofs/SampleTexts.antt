@@ -23,5 +23,9 @@ use Rattle.report.specs.Report.{kept_lines, table_text, text_under}
 use Rattle.report.specs.Samples.{SamplesPrinted}
 
 pub samples_printed : SamplesPrinted
-unfolding member records all any distinct nodes_fit table_verdict tabulate select iterate next_in level levels kept_steps ends_from sum_below reached_set strike gate_clauses concat out_of node_variables variables costs variable_formula node_gates gates demands clauses open_in take_clause round rounds marks_of same_code place numbered_clauses walk search table_search digits decimal line bytes_of exactly digits_up_to field times sheet_parser parse pack read_verdict repair_verdict kept_lines table_text text_under
+unfolding member records all any distinct nodes_fit table_verdict tabulate select iterate next_in level levels
+    kept_steps ends_from sum_below reached_set strike gate_clauses concat out_of node_variables variables costs
+    variable_formula node_gates gates demands clauses open_in take_clause round rounds marks_of same_code place
+    numbered_clauses walk search table_search digits decimal line bytes_of exactly digits_up_to field times
+    sheet_parser parse pack read_verdict repair_verdict kept_lines table_text text_under
 samples_printed = refl

@@ -31,7 +31,19 @@ use Rattle.repair.specs.Outcome.{answer_at, written_after, repair_answer, repair
 use Rattle.repair.specs.Right.{RepairIsRight}
 use Rattle.repair.proofs.Right.{every_repair_is_right}
 use Rattle.repair.proofs.Order.{short_bytes}
-use Rattle.report.specs.Report.{counted, refused, kept_line, kept_lines, found_text, answer_text, zeros, table_text, verdict_text, cap, fit_text}
+use Rattle.report.specs.Report.{
+  counted,
+  refused,
+  kept_line,
+  kept_lines,
+  found_text,
+  answer_text,
+  zeros,
+  table_text,
+  verdict_text,
+  cap,
+  fit_text,
+}
 use Rattle.report.specs.Exact.{FitTable, FitRefused, TableSays, FitSays}
 use Rattle.report.proofs.Cases.{too_long, text_read}
 

@@ -156,5 +156,9 @@ sheet_at_any_prices = whatever_prices
 -- ---- the fork
 
 pub prices_pass : all passes price_cases ≡ true
-unfolding member count_of records all any distinct nodes_fit table_verdict list_verdict bottom_up tabulate iterate next_in level levels kept_steps ends_from label_of label sum_below reached_set strike judge_verdict gate_clauses concat out_of node_variables variables node_gates gates select demands clauses open_in take_clause round rounds marks_of walk search same_code place numbered_clauses table_search answers passes costs variable_formula repair_verdict
+unfolding member count_of records all any distinct nodes_fit table_verdict list_verdict bottom_up tabulate iterate
+    next_in level levels kept_steps ends_from label_of label sum_below reached_set strike judge_verdict gate_clauses
+    concat out_of node_variables variables node_gates gates select demands clauses open_in take_clause round rounds
+    marks_of walk search same_code place numbered_clauses table_search answers passes costs variable_formula
+    repair_verdict
 prices_pass = refl

@@ -11,7 +11,23 @@ use lib.ListN.{length}
 use lib.Pow.{pow_pos}
 use Rattle.circuit.specs.Logic.{Literal, pos, neg}
 use Rattle.closure.specs.Closure.{Marks, mark_at, is_known, Progress, clash, marked, settled_below}
-use Rattle.search.specs.Search.{Best, unfound, find, undercuts, Walked, passed, cut, spent, outcome_of, capped, uncapped, pursue, walk, walk_all, search}
+use Rattle.search.specs.Search.{
+  Best,
+  unfound,
+  find,
+  undercuts,
+  Walked,
+  passed,
+  cut,
+  spent,
+  outcome_of,
+  capped,
+  uncapped,
+  pursue,
+  walk,
+  walk_all,
+  search,
+}
 use Rattle.search.specs.Right.{choices, settled}
 use Rattle.search.proofs.Step.{pursued, chosen, and_then, walk_known, walk_unknown}
 

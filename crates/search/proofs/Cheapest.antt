@@ -12,7 +12,24 @@ use lib.ListN.{length, get_or}
 use Rattle.ctl.specs.Rank.{RanksBefore, Cheapest}
 use Rattle.circuit.specs.Logic.{Literal, pos, neg}
 use Rattle.closure.specs.Closure.{Marks, mark_at, is_known, Progress, clash, marked, settled_below}
-use Rattle.search.specs.Search.{Best, unfound, find, undercuts, Walked, passed, cut, found, none, outcome_of, uncapped, pursue, choose, walk, walk_all, search}
+use Rattle.search.specs.Search.{
+  Best,
+  unfound,
+  find,
+  undercuts,
+  Walked,
+  passed,
+  cut,
+  found,
+  none,
+  outcome_of,
+  uncapped,
+  pursue,
+  choose,
+  walk,
+  walk_all,
+  search,
+}
 use Rattle.search.proofs.Step.{pursued, and_then, walk_known, walk_unknown}
 use Rattle.search.proofs.InOrder.{up_from, below_up_from}
 use Rattle.search.specs.TableSearch.{bytes_of}
@@ -186,7 +203,8 @@ module _ {e : ℕ} {Model : List ℕ → Type 0} {close : List (Literal ℕ) →
       from_found m p (stays f _) empty = let z : ◌≡◌ {A = ℕ} 0 1 = cc in omega arith
       from_found m p (finds n f _ c) empty = empty (bytes_of e n) c.first.member.0.0
 
-      from : (w : Walked) → Walks [] unfound w → ((list : List ℕ) → ¬ Model list) → (c : ℕ) × (k : ℕ) × (outcome_of first w ≡ none c k)
+      from : (w : Walked) → Walks [] unfound w → ((list : List ℕ) → ¬ Model list)
+          → (c : ℕ) × (k : ℕ) × (outcome_of first w ≡ none c k)
       from (passed unfound c) a empty = (c, first, refl)
       from (passed (find m p) c) a empty = absurd (from_found m p a empty)
       from (cut c) a empty = absurd a
@@ -212,7 +230,8 @@ module _ {e : ℕ} {Model : List ℕ → Type 0} {close : List (Literal ℕ) →
           let price_p : p ≡ cost (bytes_of e n) = cc in
           (whole (rw n_m at c), rw n_m at price_p)
 
-      by : (w : Walked) → Walks [] unfound w → outcome_of first w ≡ found m p c k → Cheapest cost Model (bytes_of e m) × (p ≡ cost (bytes_of e m))
+      by : (w : Walked) → Walks [] unfound w → outcome_of first w ≡ found m p c k
+          → Cheapest cost Model (bytes_of e m) × (p ≡ cost (bytes_of e m))
       by (passed unfound d) a q = let z : ◌≡◌ {A = ℕ} 0 1 = cc in absurd (omega arith)
       by (passed (find m' p') d) a q = let same_m : m' ≡ m = cc in let same_p : p' ≡ p = cc in of_find m' p' same_m same_p a
       by (cut d) a q = absurd a

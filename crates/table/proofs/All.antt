@@ -82,7 +82,8 @@ distinct_at (x ∷ xs) d e (suc i) (suc j) l h =
     distinct_at xs d (and_parts (not (any (same_step x) xs)) (distinct xs) e).1 i j (le_of_suc-le-suc l) (le_of_suc-le-suc h)
 
 -- and back
-pub at_distinct : (xs : List Step) (d : Step) → ((i j : ℕ) → i < j → j < length xs → same_step (get_or xs i d) (get_or xs j d) ≡ false)
+pub at_distinct : (xs : List Step) (d : Step)
+    → ((i j : ℕ) → i < j → j < length xs → same_step (get_or xs i d) (get_or xs j d) ≡ false)
     → distinct xs ≡ true
 unfolding distinct
 at_distinct [] d f = refl
@@ -118,11 +119,13 @@ nodes_fit_at p k (x ∷ xs) d e (suc i) h =
     (nodes_fit_at p (suc k) xs d (and_parts (node_fits p k x) (nodes_fit p (suc k) xs) e).1 i (le_of_suc-le-suc h))
 
 -- and back
-pub at_nodes_fit : (p k : ℕ) (xs : List Node) (d : Node) → ((i : ℕ) → i < length xs → node_fits p (k + i) (get_or xs i d) ≡ true)
+pub at_nodes_fit : (p k : ℕ) (xs : List Node) (d : Node)
+    → ((i : ℕ) → i < length xs → node_fits p (k + i) (get_or xs i d) ≡ true)
     → nodes_fit p k xs ≡ true
 unfolding nodes_fit
 at_nodes_fit p k [] d f = refl
 at_nodes_fit p k (x ∷ xs) d f =
     parts_and (node_fits p k x) (nodes_fit p (suc k) xs)
     (subst (λ (n : ℕ). node_fits p n x ≡ true) (add-zero k) (f zero (zero-lt-suc (length xs))))
-    (at_nodes_fit p (suc k) xs d (λ i h. subst (λ (n : ℕ). node_fits p n (get_or xs i d) ≡ true) (omega arith) (f (suc i) (suc-le-suc h))))
+    (at_nodes_fit p (suc k) xs d
+    (λ i h. subst (λ (n : ℕ). node_fits p n (get_or xs i d) ≡ true) (omega arith) (f (suc i) (suc-le-suc h))))

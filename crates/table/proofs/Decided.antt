@@ -15,7 +15,20 @@ use Rattle.table.specs.declared.record.State.{State}
 use Rattle.table.specs.declared.record.Step.{Step}
 use Rattle.table.specs.declared.record.Node.{Node}
 use Rattle.table.specs.Table.{Table, zero_state, zero_step, zero_node, step_at}
-use Rattle.table.specs.Accept.{all, any, distinct, counts_fit, state_fits, is_initial, step_fits, same_step, shape_of, fields_fit, node_fits, nodes_fit}
+use Rattle.table.specs.Accept.{
+  all,
+  any,
+  distinct,
+  counts_fit,
+  state_fits,
+  is_initial,
+  step_fits,
+  same_step,
+  shape_of,
+  fields_fit,
+  node_fits,
+  nodes_fit,
+}
 use Rattle.table.specs.Facts.{FieldsFit, NodeFits, NoStepTwice, NodesFit}
 use Rattle.table.specs.Refused.{CountsFit, StatesFit, SomeInitial, EndsAreStates}
 use Rattle.table.proofs.Bools.{and_parts, parts_and, not_so}
@@ -90,7 +103,8 @@ node_decided p i x = fields_decided (shape_of x.kind) p i x.a x.b
 
 module _ (T : Table) where
   pub states_decided : (all (state_fits T.props) T.states ≡ true) ↔ StatesFit T
-  states_decided = all_decided (state_fits T.props) (λ x. (x.initial ≤ 1) × (x.label < 2 ^ T.props)) (state_decided T.props) T.states zero_state
+  states_decided = all_decided (state_fits T.props) (λ x. (x.initial ≤ 1) × (x.label < 2 ^ T.props))
+      (state_decided T.props) T.states zero_state
 
   pub initial_decided : (any is_initial T.states ≡ true) ↔ SomeInitial T
   initial_decided = (
@@ -100,7 +114,8 @@ module _ (T : Table) where
 
   pub ends_decided : (all (step_fits (length T.states)) T.steps ≡ true) ↔ EndsAreStates T
   ends_decided =
-      all_decided (step_fits (length T.states)) (λ x. (x.from < length T.states) × (x.to < length T.states)) (step_decided (length T.states)) T.steps zero_step
+      all_decided (step_fits (length T.states)) (λ x. (x.from < length T.states) × (x.to < length T.states))
+      (step_decided (length T.states)) T.steps zero_step
 
   pub distinct_decided : (distinct T.steps ≡ true) ↔ NoStepTwice T
   distinct_decided = (
@@ -113,5 +128,6 @@ module _ (T : Table) where
     λ e i h. subst (λ (k : ℕ). NodeFits T.props k (get_or T.nodes i zero_node)) (zero-add i)
         ((node_decided _ _ _).0 (nodes_fit_at T.props 0 T.nodes zero_node e i h)),
     λ f. at_nodes_fit T.props 0 T.nodes zero_node
-        (λ i h. subst (λ (k : ℕ). node_fits T.props k (get_or T.nodes i zero_node) ≡ true) (sym (zero-add i)) ((node_decided _ _ _).1 (f i h))),
+        (λ i h. subst (λ (k : ℕ). node_fits T.props k (get_or T.nodes i zero_node) ≡ true) (sym (zero-add i))
+        ((node_decided _ _ _).1 (f i h))),
   )

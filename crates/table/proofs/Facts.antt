@@ -19,7 +19,16 @@ use Rattle.table.specs.Accept.{all, any, distinct, counts_fit, state_fits, is_in
 use Rattle.table.specs.Facts.{Wellformed, Packed, NoStepTwice, NodesFit}
 use Rattle.table.specs.Refused.{CountsFit, StatesFit, SomeInitial, EndsAreStates}
 use Rattle.table.proofs.Records.{records-length, records_at, record_anywhere}
-use Rattle.table.proofs.Decided.{counts_decided, state_decided, step_decided, states_decided, initial_decided, ends_decided, distinct_decided, nodes_decided}
+use Rattle.table.proofs.Decided.{
+  counts_decided,
+  state_decided,
+  step_decided,
+  states_decided,
+  initial_decided,
+  ends_decided,
+  distinct_decided,
+  nodes_decided,
+}
 use Rattle.table.proofs.Verdicts.{then_accepted, require_accepted}
 
 -- the record that a section has at a number below the count is the table's record of that number
@@ -94,7 +103,8 @@ abbrev pub CountsOfTable : Table → Type 0
 CountsOfTable T = CountsFit (record { states = length T.states; steps = length T.steps; nodes = length T.nodes; props = T.props })
 
 -- records that pass each test have the facts of a table
-pub wellformed_by : (T : Table) → CountsOfTable T → StatesFit T → SomeInitial T → EndsAreStates T → NoStepTwice T → NodesFit T → Wellformed T
+pub wellformed_by : (T : Table) → CountsOfTable T → StatesFit T → SomeInitial T → EndsAreStates T → NoStepTwice T
+    → NodesFit T → Wellformed T
 wellformed_by T w states initial ends once nodes = record {
   some_state = w.some_state;
   few_states = w.few_states;
@@ -115,7 +125,8 @@ wellformed_by T w states initial ends once nodes = record {
 pub wellformed : (T : Table) → CountsOfTable T → records_verdict T ≡ Ok tt → Wellformed T
 wellformed T w e =
     let t = records_accepted T e in
-    wellformed_by T w ((states_decided T).0 t.0) ((initial_decided T).0 t.1) ((ends_decided T).0 t.2) ((distinct_decided T).0 t.3) ((nodes_decided T).0 t.4)
+    wellformed_by T w ((states_decided T).0 t.0) ((initial_decided T).0 t.1) ((ends_decided T).0 t.2)
+    ((distinct_decided T).0 t.3) ((nodes_decided T).0 t.4)
 
 -- accepted bytes have the facts of a packed table
 pub accepted : (bytes : List ℕ) → table_verdict bytes ≡ Ok tt → Packed bytes

@@ -9,19 +9,55 @@ use lib.Dec.{leb, eqb}
 use lib.ListN.{length, get_or}
 use Rattle.std.specs.Prelude.{Ok, Err}
 use Rattle.table.specs.declared.refusal.Refusal.{Refusal}
-use Rattle.table.specs.declared.refusal.Refusal.TheVariants.{Length, Counts as CountsRefused, StateRecord, NoInitial, StepEnd, RepeatedStep, NodeRecord, ListForm}
+use Rattle.table.specs.declared.refusal.Refusal.TheVariants.{
+  Length,
+  Counts as CountsRefused,
+  StateRecord,
+  NoInitial,
+  StepEnd,
+  RepeatedStep,
+  NodeRecord,
+  ListForm,
+}
 use Rattle.table.specs.Verdict.{Verdict, require}
 use Rattle.table.specs.Table.{Table, table_of, counts_of, packed_length, header_width}
-use Rattle.table.specs.Accept.{all, any, distinct, counts_fit, state_fits, is_initial, step_fits, nodes_fit, states_verdict, steps_verdict, records_verdict, table_verdict, list_verdict}
+use Rattle.table.specs.Accept.{
+  all,
+  any,
+  distinct,
+  counts_fit,
+  state_fits,
+  is_initial,
+  step_fits,
+  nodes_fit,
+  states_verdict,
+  steps_verdict,
+  records_verdict,
+  table_verdict,
+  list_verdict,
+}
 use Rattle.table.specs.Facts.{IsTable, NoStepTwice, NodesFit}
 use Rattle.table.specs.Refused.{CountsFit, RightLength, StatesFit, SomeInitial, EndsAreStates, TableRefused}
 use Rattle.table.proofs.Verdicts.{accepted_then, accepted_require, require_accepted, then_assoc, first_test, last_test}
-use Rattle.table.proofs.Decided.{rule_fails, both, all_decided, at_most_decided, same_decided, counts_decided, states_decided, initial_decided, ends_decided, distinct_decided, nodes_decided}
+use Rattle.table.proofs.Decided.{
+  rule_fails,
+  both,
+  all_decided,
+  at_most_decided,
+  same_decided,
+  counts_decided,
+  states_decided,
+  initial_decided,
+  ends_decided,
+  distinct_decided,
+  nodes_decided,
+}
 use Rattle.table.proofs.Facts.{header_accepted, accepted, states_are, steps_are, nodes_are}
 
 module _ (bytes : List ℕ) where
   -- records that keep each rule are accepted
-  records_pass : (T : Table) → StatesFit T → SomeInitial T → EndsAreStates T → NoStepTwice T → NodesFit T → records_verdict T ≡ Ok tt
+  records_pass : (T : Table) → StatesFit T → SomeInitial T → EndsAreStates T → NoStepTwice T → NodesFit T
+      → records_verdict T ≡ Ok tt
   records_pass T states initial ends once nodes =
       accepted_then (states_verdict T.props T.states) _
       (accepted_then _ _ (accepted_require _ _ ((states_decided T).1 states)) (accepted_require _ _ ((initial_decided T).1 initial)))
@@ -50,7 +86,8 @@ module _ (bytes : List ℕ) where
   unfolding table_verdict
   back t =
       let w = t.wellformed in
-      let records = records_pass (table_of bytes) (λ s h. (w.initial_bit s h, w.label_below s h)) w.some_initial (λ j h. (w.from_state j h, w.to_state j h)) w.no_repeat w.each_node_fits in
+      let records = records_pass (table_of bytes) (λ s h. (w.initial_bit s h, w.label_below s h)) w.some_initial
+      (λ j h. (w.from_state j h, w.to_state j h)) w.no_repeat w.each_node_fits in
       accepted_then _ _ (accepted_require Length _ ((at_most_decided header_width (length bytes)).1 t.header))
       (accepted_then _ _ (accepted_require CountsRefused _ ((counts_decided (counts_of bytes)).1 (counts_of_table t)))
       (accepted_then _ _ (accepted_require Length _ ((same_decided (length bytes) (packed_length (counts_of bytes))).1 t.whole)) records))
@@ -71,7 +108,8 @@ module _ (bytes : List ℕ) where
       (λ f s. subst (TableRefused bytes) s (right, rule_fails states (states_decided T) f))
       (λ t1 e1. let fit = (states_decided T).0 t1 in first_test NoInitial r initial _ e1
       (λ f s. subst (TableRefused bytes) s (right, fit, rule_fails initial (initial_decided T) f))
-      (λ t2 e2. let some = (initial_decided T).0 t2 in first_test StepEnd r ends _ (sym (then_assoc (require StepEnd ends) (require RepeatedStep once) _) ∙ e2)
+      (λ t2 e2. let some = (initial_decided T).0 t2 in first_test StepEnd r ends _
+      (sym (then_assoc (require StepEnd ends) (require RepeatedStep once) _) ∙ e2)
       (λ f s. subst (TableRefused bytes) s (right, fit, some, rule_fails ends (ends_decided T) f))
       (λ t3 e3. let inside = (ends_decided T).0 t3 in first_test RepeatedStep r once _ e3
       (λ f s. subst (TableRefused bytes) s (right, fit, some, inside, rule_fails once (distinct_decided T) f))
@@ -95,12 +133,21 @@ module _ (bytes : List ℕ) where
       let fits = counts_fit (counts_of bytes) in
       let whole = eqb (length bytes) (packed_length (counts_of bytes)) in
       first_test Length r long _ e
-      (λ f s. subst (TableRefused bytes) s (inl (let short : ¬ (header_width ≤ length bytes) = rule_fails long (at_most_decided header_width (length bytes)) f in omega (arith, short))))
+      (λ f s. subst (TableRefused bytes) s
+      (inl (let short : ¬ (header_width ≤ length bytes) =
+      rule_fails long (at_most_decided header_width (length bytes)) f in omega (arith, short))))
       (λ t1 e1. let header = (at_most_decided header_width (length bytes)).0 t1 in first_test CountsRefused r fits _ e1
       (λ f s. subst (TableRefused bytes) s (header, rule_fails fits (counts_decided (counts_of bytes)) f))
       (λ t2 e2. let counts = (counts_decided (counts_of bytes)).0 t2 in first_test Length r whole _ e2
-      (λ f s. subst (TableRefused bytes) s (inr (header, counts, rule_fails whole (same_decided (length bytes) (packed_length (counts_of bytes))) f)))
-      (λ t3 e3. records_refused (record { header = header; counts = counts; whole = (same_decided (length bytes) (packed_length (counts_of bytes))).0 t3 }) r e3)))
+      (λ f s. subst (TableRefused bytes) s
+      (inr (header, counts, rule_fails whole (same_decided (length bytes) (packed_length (counts_of bytes))) f)))
+      (λ t3 e3. records_refused
+      (record {
+        header = header;
+        counts = counts;
+        whole =
+            (same_decided (length bytes) (packed_length (counts_of bytes))).0 t3;
+      }) r e3)))
 
 -- a list is accepted exactly where it has as many bytes as there are steps, each 0 or 1
 pub list_accepts : (e : ℕ) (list : List ℕ) (v : Verdict) → v ≡ list_verdict e list
@@ -108,5 +155,7 @@ pub list_accepts : (e : ℕ) (list : List ℕ) (v : Verdict) → v ≡ list_verd
 unfolding list_verdict
 list_accepts e list v here = (λ a. rule.0 (require_accepted _ _ (sym here ∙ a)), λ h. here ∙ accepted_require ListForm _ (rule.1 h))
   where
-    rule : (eqb (length list) e && all (λ b. leb b 1) list ≡ true) ↔ ((length list ≡ e) × ((j : ℕ) → j < length list → get_or list j 0 ≤ 1))
-    rule = both (eqb (length list) e) (all (λ b. leb b 1) list) (same_decided (length list) e) (all_decided (λ b. leb b 1) (λ b. b ≤ 1) (λ b. at_most_decided b 1) list 0)
+    rule : (eqb (length list) e && all (λ b. leb b 1) list ≡ true)
+        ↔ ((length list ≡ e) × ((j : ℕ) → j < length list → get_or list j 0 ≤ 1))
+    rule = both (eqb (length list) e) (all (λ b. leb b 1) list) (same_decided (length list) e)
+        (all_decided (λ b. leb b 1) (λ b. b ≤ 1) (λ b. at_most_decided b 1) list 0)

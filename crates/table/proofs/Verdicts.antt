@@ -47,8 +47,10 @@ abbrev refusal_in : Verdict → Refusal → Refusal
 refusal_in (Ok tt) r = r
 refusal_in (Err q) r = q
 
--- where a test and what is asked after it refuse, either the test fails and the refusal is its own, or it holds and what comes after refuses
-pub first_test : {G : Type 0} (q r : Refusal) (b : Bool) (w : Verdict) → require q b then w ≡ Err r → (b ≡ false → q ≡ r → G) → (b ≡ true → w ≡ Err r → G) → G
+-- where a test and what is asked after it refuse, either the test fails and the refusal is its own, or it holds and
+-- what comes after refuses
+pub first_test : {G : Type 0} (q r : Refusal) (b : Bool) (w : Verdict) → require q b then w ≡ Err r
+    → (b ≡ false → q ≡ r → G) → (b ≡ true → w ≡ Err r → G) → G
 first_test q r true w e here later = later refl e
 first_test q r false w e here later = here refl (ap (λ (v : Verdict). refusal_in v r) e)
 

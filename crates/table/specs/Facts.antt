@@ -19,7 +19,8 @@ NodeFits p i x = FieldsFit (shape_of x.kind) p i x.a x.b
 
 -- no two steps have the same ends, whatever their prices
 abbrev pub NoStepTwice : Table → Type 0
-NoStepTwice T = (i j : ℕ) → i < j → j < length T.steps → ¬ (((step_at T i).from ≡ (step_at T j).from) × ((step_at T i).to ≡ (step_at T j).to))
+NoStepTwice T = (i j : ℕ) → i < j → j < length T.steps
+    → ¬ (((step_at T i).from ≡ (step_at T j).from) × ((step_at T i).to ≡ (step_at T j).to))
 
 abbrev pub NodesFit : Table → Type 0
 NodesFit T = (i : ℕ) → i < length T.nodes → NodeFits T.props i (node_at T i)

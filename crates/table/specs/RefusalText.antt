@@ -1,7 +1,22 @@
 -- What a refusal says when it is printed.
 use Rattle.std.specs.Prelude.{ℕ, List, codes}
 use Rattle.table.specs.declared.refusal.Refusal.{Refusal}
-use Rattle.table.specs.declared.refusal.Refusal.TheVariants.{SheetForm, Length, Counts, StateRecord, NoInitial, StepEnd, RepeatedStep, NodeRecord, ListForm, ShortBuffer, NotTotal, NoInitialKept, RootFails, UnreachedStep}
+use Rattle.table.specs.declared.refusal.Refusal.TheVariants.{
+  SheetForm,
+  Length,
+  Counts,
+  StateRecord,
+  NoInitial,
+  StepEnd,
+  RepeatedStep,
+  NodeRecord,
+  ListForm,
+  ShortBuffer,
+  NotTotal,
+  NoInitialKept,
+  RootFails,
+  UnreachedStep,
+}
 
 abbrev pub refusal_text : Refusal → List ℕ
 refusal_text SheetForm = codes "the text is not of sheet form"

@@ -7,7 +7,8 @@ use crate::refusal::Refusal;
 // A list is e bytes, each 0 or 1.
 pub fn check_list(list: &[u8], e: usize) -> Result<(), Refusal>
     ensures value { result ≡ list_verdict e list.now }
-    ensures accepted { (result ≡ Ok tt) ↔ ((length list.now ≡ e) × ((j : ℕ) → j < length list.now → get_or list.now j 0 ≤ 1)) }
+    ensures accepted { (result ≡ Ok tt)
+        ↔ ((length list.now ≡ e) × ((j : ℕ) → j < length list.now → get_or list.now j 0 ≤ 1)) }
     ensures refused { IfErr result (λ r. r ≡ Refusal.ListForm) }
 {
     if list.len() != e {

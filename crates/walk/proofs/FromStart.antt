@@ -31,17 +31,21 @@ module _ (T : Table) (cap : ℕ) where
 
   as_search : search_under T cap ≡ outcome_of first (search_from T cap 0 [] unfound 0)
   unfolding table_search search first
-  as_search = ap (λ (e : ℕ). outcome_of (settled_below e (closure_of T [])) (search_from T cap 0 [] unfound 0)) (length_tabulate (length T.steps) (λ k. k))
+  as_search = ap (λ (e : ℕ). outcome_of (settled_below e (closure_of T [])) (search_from T cap 0 [] unfound 0))
+      (length_tabulate (length T.steps) (λ k. k))
 
   -- what is answered and written, where all was walked as the search does
   module _ (bytes : List ℕ) (r : Finished) (g : Gives T cap (search_from T cap 0 [] unfound 0) bytes r) where
-    pub start_answer : (k : ℕ) → k ≡ settled_below (length T.steps) (closure_of T []) → finished k r ≡ answer_of (search_under T cap)
+    pub start_answer : (k : ℕ) → k ≡ settled_below (length T.steps) (closure_of T [])
+        → finished k r ≡ answer_of (search_under T cap)
     unfolding first
     start_answer k settled =
-        ap (λ (n : ℕ). finished n r) settled ∙ gives-answer T cap first (search_from T cap 0 [] unfound 0) bytes r g ∙ sym (λ i. answer_of (as_search i))
+        ap (λ (n : ℕ). finished n r) settled ∙ gives-answer T cap first (search_from T cap 0 [] unfound 0) bytes r g
+        ∙ sym (λ i. answer_of (as_search i))
 
     pub start_list : (list : List ℕ) → written (length T.steps) r bytes list ≡ list_after T (search_under T cap) list
-    start_list list = gives_list T cap first (search_from T cap 0 [] unfound 0) bytes r list g ∙ sym (λ i. list_after T (as_search i) list)
+    start_list list = gives_list T cap first (search_from T cap 0 [] unfound 0) bytes r list g
+        ∙ sym (λ i. list_after T (as_search i) list)
 
 module _ (T : Table) (wf : Wellformed T) (rows words : List ℕ) (c : Option ℕ) (before bytes : List ℕ) (reached : Reached) (gives : ComesOf T c Unfound rows before bytes reached)
     (closes : Closes T [] c (memory rows words)) (rests : is_failed c ≡ false → Resting T (memory rows words)) where
@@ -52,11 +56,17 @@ module _ (T : Table) (wf : Wellformed T) (rows words : List ℕ) (c : Option ℕ
   comes = gives words [] unfound (closure-is_right T wf).fine_none closes rests tt
 
   -- an end was reached
-  pub start_ended : (cap : ℕ) (after : Held) → reached ≡ Ended after → Gives T cap (search_from T cap 0 [] unfound 0) bytes (Ok (record { best = after; choices = record { made = 0; cap = cap } }))
+  pub start_ended : (cap : ℕ) (after : Held) → reached ≡ Ended after
+      → Gives T cap (search_from T cap 0 [] unfound 0) bytes
+      (Ok (record { best = after; choices = record { made = 0; cap = cap } }))
   start_ended cap after told = go (subst (Comes T Unfound M bytes [] unfound) told comes)
     where
-      go : Comes T Unfound M bytes [] unfound (Ended after) → Gives T cap (search_from T cap 0 [] unfound 0) bytes (Ok (record { best = after; choices = record { made = 0; cap = cap } }))
-      go (b', stores, same) = gives_same T cap bytes (Ok (record { best = after; choices = record { made = 0; cap = cap } })) (same cap 0 0 (omega arith)) (stores, (refl, refl))
+      go : Comes T Unfound M bytes [] unfound (Ended after)
+          → Gives T cap (search_from T cap 0 [] unfound 0) bytes
+          (Ok (record { best = after; choices = record { made = 0; cap = cap } }))
+      go (b', stores, same) =
+          gives_same T cap bytes (Ok (record { best = after; choices = record { made = 0; cap = cap } }))
+          (same cap 0 0 (omega arith)) (stores, (refl, refl))
 
   -- or a step that is unsettled
   module _ (k : ℕ) (told : reached ≡ Unsettled k) where
@@ -69,7 +79,8 @@ module _ (T : Table) (wf : Wellformed T) (rows words : List ℕ) (c : Option ℕ
     pub start_stands : Somewhere (GoesOn T k M Unfound bytes)
     start_stands = ([], there.0, unfound, there.1)
 
-    pub start_onward : (cap : ℕ) (after : List ℕ) (r : Finished) → GivesFrom (GoesOn T k M Unfound bytes) T cap (λ R n b. walk_from T cap k R n b 0) after r
+    pub start_onward : (cap : ℕ) (after : List ℕ) (r : Finished)
+        → GivesFrom (GoesOn T k M Unfound bytes) T cap (λ R n b. walk_from T cap k R n b 0) after r
         → Gives T cap (search_from T cap 0 [] unfound 0) after r
     start_onward cap after r rest =
         let s : StandsAt T k M.rows [] there.0 = there.1.stands in

@@ -24,7 +24,8 @@ module _ (T : Table) where
   stored-beats (find m p) (Cheapest q) bytes price h = ap (ltb price) h.0
 
   -- of the same end of the search
-  pub gives_same : (cap : ℕ) (bytes : List ℕ) (r : Finished) {w v : Walked} → w ≡ v → Gives T cap v bytes r → Gives T cap w bytes r
+  pub gives_same : (cap : ℕ) (bytes : List ℕ) (r : Finished) {w v : Walked} → w ≡ v → Gives T cap v bytes r
+      → Gives T cap w bytes r
   gives_same cap bytes r e g = subst (λ x. Gives T cap x bytes r) (sym e) g
 
   -- at the cap, nothing comes after
@@ -41,7 +42,8 @@ module _ (T : Table) where
 
   -- ---- once all is walked
 
-  pub gives-answer : (cap k : ℕ) (w : Walked) (bytes : List ℕ) (r : Finished) → Gives T cap w bytes r → finished k r ≡ answer_of (outcome_of k w)
+  pub gives-answer : (cap k : ℕ) (w : Walked) (bytes : List ℕ) (r : Finished) → Gives T cap w bytes r
+      → finished k r ≡ answer_of (outcome_of k w)
   gives-answer cap k (passed b c) bytes (Ok p) g = told b p.best p.choices g.0 g.1.0
     where
       told : (b : Best) (best : Held) (choices : Choices) → Stores T b best bytes → choices.made ≡ c
@@ -59,7 +61,8 @@ module _ (T : Table) where
   gives_list cap k (passed b c) bytes (Ok p) list g = told b p.best g.0
     where
       told : (b : Best) (best : Held) → Stores T b best bytes
-          → written (length T.steps) (Ok (record { best = best; choices = p.choices })) bytes list ≡ list_after T (outcome_of k (passed b c)) list
+          → written (length T.steps) (Ok (record { best = best; choices = p.choices })) bytes list ≡ list_after T
+          (outcome_of k (passed b c)) list
       told unfound Unfound h = refl
       told unfound (Cheapest q) h = absurd h
       told (find m p) Unfound h = absurd h

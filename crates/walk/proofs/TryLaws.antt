@@ -41,7 +41,8 @@ use Rattle.walk.proofs.Fewer.{unsettled_steps, unsettled_falls}
 
 -- ---- the try
 
-module _ (T : Table) (wf : Wellformed T) (j : ℕ) (rows : List ℕ) (P : List (Literal ℕ)) (m : Marks) (at : StandsAt T j rows P m) (sign : Bool) where
+module _ (T : Table) (wf : Wellformed T) (j : ℕ) (rows : List ℕ) (P : List (Literal ℕ)) (m : Marks)
+    (at : StandsAt T j rows P m) (sign : Bool) where
   -- the step, chosen
   abbrev chosen_literal : Literal ℕ
   chosen_literal = record { sign = sign; var = j }
@@ -73,7 +74,8 @@ module _ (T : Table) (wf : Wellformed T) (j : ℕ) (rows : List ℕ) (P : List (
     tried = λ b. try_from T sign count.cap j P b count.made
 
     -- what was passed is within it
-    pub try_within : count.made ≤ count.cap → (b : Best) (bytes : List ℕ) (r : Finished) → Gives T count.cap (tried b) bytes r → (p : Passed) → r ≡ Ok p → p.choices.made ≤ p.choices.cap
+    pub try_within : count.made ≤ count.cap → (b : Best) (bytes : List ℕ) (r : Finished)
+        → Gives T count.cap (tried b) bytes r → (p : Passed) → r ≡ Ok p → p.choices.made ≤ p.choices.cap
     try_within h b bytes r g p told = go (eqb count.made count.cap) refl
       where
         back : (b' : Best) × (tried b ≡ passed b' p.choices.made) × Stores T b' p.best bytes × (p.choices.cap ≡ count.cap)
@@ -88,7 +90,8 @@ module _ (T : Table) (wf : Wellformed T) (j : ℕ) (rows : List ℕ) (P : List (
           arith,
           back.3,
           ap made (sym ended ∙ choose_next T count.cap (suc j) chosen_literal P b count.made e),
-          capped_made (pursue_capped count.cap (closure_of T) (mark_price T) (steps_from T (suc j)) Q b (count.made + 1) (omega (arith, h, eqb-false count.made count.cap e))),
+          capped_made (pursue_capped count.cap (closure_of T) (mark_price T) (steps_from T (suc j)) Q b
+              (count.made + 1) (omega (arith, h, eqb-false count.made count.cap e))),
         )
 
     -- below it
@@ -110,11 +113,15 @@ module _ (T : Table) (wf : Wellformed T) (j : ℕ) (rows : List ℕ) (P : List (
 
       module _ (best : Held) (M : Memory) (bytes : List ℕ) (reached : Reached) (comes : Comes T best M bytes Q b reached) where
         -- an end was reached
-        pub try_ended : (after : Held) → reached ≡ Ended after → Gives T count.cap (tried b) bytes (Ok (record { best = after; choices = more }))
+        pub try_ended : (after : Held) → reached ≡ Ended after
+            → Gives T count.cap (tried b) bytes (Ok (record { best = after; choices = more }))
         try_ended after told = go (subst (Comes T best M bytes Q b) told comes)
           where
             go : Comes T best M bytes Q b (Ended after) → Gives T count.cap (tried b) bytes (Ok (record { best = after; choices = more }))
-            go (b', stores, same) = gives_same T count.cap bytes (Ok (record { best = after; choices = more })) (as_search ∙ same more.cap (suc j) more.made at.inside) (stores, (refl, ap (λ (d : Choices). d.cap) one_more))
+            go (b', stores, same) =
+                gives_same T count.cap bytes (Ok (record { best = after; choices = more }))
+                (as_search ∙ same more.cap (suc j) more.made at.inside)
+                (stores, (refl, ap (λ (d : Choices). d.cap) one_more))
 
         -- or a step that is unsettled
         module _ (k : ℕ) (told : reached ≡ Unsettled k) where
@@ -126,7 +133,8 @@ module _ (T : Table) (wf : Wellformed T) (j : ℕ) (rows : List ℕ) (P : List (
 
           -- the search stands there with fewer steps unsettled, and within the cap
           pub try_goes : count.made ≤ count.cap
-              → (unsettled_steps T M.rows < unsettled_steps T rows) × (more.made ≤ more.cap) × Resting T M × Somewhere (GoesOn T k M best bytes)
+              → (unsettled_steps T M.rows < unsettled_steps T rows) × (more.made ≤ more.cap) × Resting T M
+              × Somewhere (GoesOn T k M best bytes)
           try_goes h = (unsettled_falls T wf j k rows M.rows P m there.0 sign at s, within_cap h, there.3, (Q, there.0, b, there.1))
 
           -- a later step
@@ -134,18 +142,22 @@ module _ (T : Table) (wf : Wellformed T) (j : ℕ) (rows : List ℕ) (P : List (
           later = go (dec_lt k (suc j))
             where
               go : Dec (k < suc j) → suc j ≤ k
-              go (yes l) = absurd (false≢true (sym s.unsettled ∙ (stands_choice (closure-is_right T wf) stands at.inside at.unsettled sign there.0 s.new s.closed).settled k l))
+              go (yes l) = absurd (false≢true
+                  (sym s.unsettled ∙ (stands_choice
+                  (closure-is_right T wf) stands at.inside at.unsettled sign there.0 s.new s.closed).settled k l))
               go (no l) = omega arith
 
           -- and goes on from there
-          pub try_onward : (after : List ℕ) (r : Finished) → GivesFrom (GoesOn T k M best bytes) T more.cap (λ R n c. walk_from T more.cap k R n c more.made) after r
+          pub try_onward : (after : List ℕ) (r : Finished)
+              → GivesFrom (GoesOn T k M best bytes) T more.cap (λ R n c. walk_from T more.cap k R n c more.made) after r
               → Gives T count.cap (tried b) after r
           try_onward after r rest =
               gives_same T count.cap after r
               (as_search
               ∙ search_marked T more.cap (suc j) Q b more.made s.closed there.2
               ∙ walk_passed T more.cap Q there.0 b more.made (suc j) k later (omega (arith, s.inside)) s.settled)
-              (subst (λ (cap : ℕ). Gives T cap (walk_from T more.cap k Q there.0 b more.made) after r) (ap (λ (d : Choices). d.cap) one_more) (rest Q there.0 b there.1))
+              (subst (λ (cap : ℕ). Gives T cap (walk_from T more.cap k Q there.0 b more.made) after r)
+              (ap (λ (d : Choices). d.cap) one_more) (rest Q there.0 b there.1))
 
 -- ---- both tries
 
@@ -157,7 +169,8 @@ module _ (T : Table) (count : Choices) (j : ℕ) (rows : List ℕ) (P : List (Li
   split = walk_unsettled T count.cap P m b count.made j at.inside at.unsettled
 
   -- at the cap, neither is made
-  pub walk_capped : None ≡ counted count → (bytes : List ℕ) → Gives T count.cap (walk_from T count.cap j P m b count.made) bytes (Err (record { choices = count }))
+  pub walk_capped : None ≡ counted count → (bytes : List ℕ)
+      → Gives T count.cap (walk_from T count.cap j P m b count.made) bytes (Err (record { choices = count }))
   walk_capped none bytes =
       gives_same T count.cap bytes (Err (record { choices = count }))
       (split
@@ -176,8 +189,11 @@ module _ (T : Table) (count : Choices) (j : ℕ) (rows : List ℕ) (P : List (Li
       pub kept_passed : (b' : Best) × (kept_try ≡ passed b' p.choices.made) × Stores T b' p.best bytes × (p.choices.cap ≡ count.cap)
       kept_passed = gives-passed T count.cap kept_try bytes p (subst (Gives T count.cap kept_try bytes) told gives)
 
-      pub kept_then : (after : List ℕ) (r : Finished) → ((b' : Best) → Stores T b' p.best bytes → Gives T p.choices.cap (try_from T false p.choices.cap j P b' p.choices.made) after r)
+      pub kept_then : (after : List ℕ) (r : Finished)
+          → ((b' : Best) → Stores T b' p.best bytes
+          → Gives T p.choices.cap (try_from T false p.choices.cap j P b' p.choices.made) after r)
           → Gives T count.cap (walk_from T count.cap j P m b count.made) after r
       kept_then after r rest =
           gives_same T count.cap after r (split ∙ ap (λ (w : Walked). and_then w (try_from T false count.cap j P)) kept_passed.1)
-          (subst (λ (cap : ℕ). Gives T cap (try_from T false cap j P kept_passed.0 p.choices.made) after r) kept_passed.3 (rest kept_passed.0 kept_passed.2))
+          (subst (λ (cap : ℕ). Gives T cap (try_from T false cap j P kept_passed.0 p.choices.made) after r)
+          kept_passed.3 (rest kept_passed.0 kept_passed.2))

@@ -124,7 +124,8 @@ returns-then-minus-ne0-2 c =
     let t = c.args.table.now in
     let l = c.args.list.now in
     let way = sym c.in_ok-a.was ∙ analysis_moved Any l _ t c.in_ok-table.ensures.0 _ c.analyse.ensures in
-    let told = root_left _ _ way c.intersection-starts.ensures c.if-starts-eq0.false c.reached_states-reached.ensures c.minus.ensures c.if-minus-ne0.false
+    let told = root_left _ _ way c.intersection-starts.ensures c.if-starts-eq0.false c.reached_states-reached.ensures
+    c.minus.ensures c.if-minus-ne0.false
     c.minus-2.ensures (ne_eqb c.minus-2.result 0 c.if-minus-ne0-2.true) in
     record { value = told; exact = verdict_exact t l _ told; refused = verdict_refuses t l _ told }
 
@@ -133,6 +134,7 @@ returns c =
     let t = c.args.table.now in
     let l = c.args.list.now in
     let way = sym c.in_ok-a.was ∙ analysis_moved Any l _ t c.in_ok-table.ensures.0 _ c.analyse.ensures in
-    let told = root_left _ _ way c.intersection-starts.ensures c.if-starts-eq0.false c.reached_states-reached.ensures c.minus.ensures c.if-minus-ne0.false
+    let told = root_left _ _ way c.intersection-starts.ensures c.if-starts-eq0.false c.reached_states-reached.ensures
+    c.minus.ensures c.if-minus-ne0.false
     c.minus-2.ensures (eq-eqb c.minus-2.result 0 c.if-minus-ne0-2.false) in
     record { value = told; exact = verdict_exact t l _ told; refused = tt }

@@ -17,7 +17,11 @@ unfolding table_text
 same_text table e p i = answer_text table (e i) (p i)
 
 pub write_result-requires : goal.write_result-requires
-write_result-requires c = room_as _ _ _ _ (same_text c.args.table.now.bytes.now c.repair_accepted-answer.ensures.value c.repair_accepted-answer.ensures.list_after) c.requires
+write_result-requires c =
+    room_as _ _ _ _ (same_text c.args.table.now.bytes.now c.repair_accepted-answer.ensures.value
+    c.repair_accepted-answer.ensures.list_after) c.requires
 
 pub returns : goal.returns
-returns c = stored_as _ _ _ _ _ _ (same_text c.args.table.now.bytes.now c.repair_accepted-answer.ensures.value c.repair_accepted-answer.ensures.list_after) c.write_result.ensures
+returns c = stored_as _ _ _ _ _ _
+    (same_text c.args.table.now.bytes.now c.repair_accepted-answer.ensures.value
+    c.repair_accepted-answer.ensures.list_after) c.write_result.ensures

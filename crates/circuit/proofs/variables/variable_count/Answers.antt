@@ -43,7 +43,12 @@ small c =
     let t = few c.args.table.now.bytes.now c.args.table.now.passes in
     let n = c.state_count-n.result in
     let e = c.step_count-e.result in
-    omega (arith, cost_most n e (omega (arith, t.0, c.state_count-n.ensures)) (omega (arith, t.1, c.step_count-e.ensures)) c.from.result, c.node_cost-sum.ensures)
+    omega (
+      arith,
+      cost_most n e (omega (arith, t.0, c.state_count-n.ensures))
+          (omega (arith, t.1, c.step_count-e.ensures)) c.from.result,
+      c.node_cost-sum.ensures,
+    )
 
 pub overflow_add-sum : goal.overflow_add-sum
 overflow_add-sum c =
@@ -70,7 +75,8 @@ loop-i-preserved c =
     let i = c.loop-i.i in
     let nodes = (table_of c.args.table.now.bytes.now).nodes in
     let inside : i < length nodes = omega (arith, c.loop-i-test.true, c.node_count-i-end.ensures) in
-    let here = one c.state_count-n.result c.step_count-e.result nodes i inside c.from.result (c.from.ensures ∙ ap operator_of c.node.ensures) in
+    let here = one c.state_count-n.result c.step_count-e.result nodes i inside c.from.result
+    (c.from.ensures ∙ ap operator_of c.node.ensures) in
     (omega arith, omega (arith, small c), omega (arith, c.loop-i.invariant.2, here, c.node_cost-sum.ensures))
 
 pub returns-clause-formula : goal.returns-clause-formula

@@ -11,4 +11,5 @@ abbrev pub invariant-loop-i : goal.invariant-loop-i
 invariant-loop-i l =
     (l.i ≤ l.i-end)
     × (l.sum ≤ 160 + 260355 * l.i)
-    × (l.e + l.n + costs l.n l.e (table_of l.table.bytes.now).nodes ≡ l.sum + costs l.n l.e (drop l.i (table_of l.table.bytes.now).nodes))
+    × (l.e + l.n + costs l.n l.e (table_of l.table.bytes.now).nodes
+    ≡ l.sum + costs l.n l.e (drop l.i (table_of l.table.bytes.now).nodes))

@@ -56,7 +56,8 @@ returns-in-Constant-clause-value c =
     let a = c.args in
     let n = a.graph.now.states in
     λ w. added a.rows.now (node_place a.i) (c.constant_row.ensures ∙ ap (constant_row n) c.constant_set-set.ensures) c.add_node.ensures.value c.add_node.ensures.rows_after w
-    ∙ ap (λ (o : Operator). node_step a.table.now.bytes.now a.graph.now.targets n a.look a.i o (memory a.rows.now w)) (sym c.in-Constant.is)
+    ∙ ap (λ (o : Operator). node_step a.table.now.bytes.now a.graph.now.targets n a.look a.i o (memory a.rows.now w))
+    (sym c.in-Constant.is)
 
 pub returns-in-Atom-clause-value : goal.returns-in-Atom-clause-value
 unfolding node_step
@@ -72,21 +73,24 @@ unfolding node_step
 returns-in-Negation-clause-value c =
     let a = c.args in
     λ w. c.same_step.ensures.value w
-    ∙ ap (λ (o : Operator). node_step a.table.now.bytes.now a.graph.now.targets a.graph.now.states a.look a.i o (memory a.rows.now w)) (sym c.in-Negation.is)
+    ∙ ap (λ (o : Operator). node_step a.table.now.bytes.now a.graph.now.targets a.graph.now.states a.look a.i o
+    (memory a.rows.now w)) (sym c.in-Negation.is)
 
 pub returns-in-Conjunction-clause-value : goal.returns-in-Conjunction-clause-value
 unfolding node_step
 returns-in-Conjunction-clause-value c =
     let a = c.args in
     λ w. c.pair_step.ensures.value w
-    ∙ ap (λ (o : Operator). node_step a.table.now.bytes.now a.graph.now.targets a.graph.now.states a.look a.i o (memory a.rows.now w)) (sym c.in-Conjunction.is)
+    ∙ ap (λ (o : Operator). node_step a.table.now.bytes.now a.graph.now.targets a.graph.now.states a.look a.i o
+    (memory a.rows.now w)) (sym c.in-Conjunction.is)
 
 pub returns-in-Disjunction-clause-value : goal.returns-in-Disjunction-clause-value
 unfolding node_step
 returns-in-Disjunction-clause-value c =
     let a = c.args in
     λ w. c.pair_step-in-Disjunction.ensures.value w
-    ∙ ap (λ (o : Operator). node_step a.table.now.bytes.now a.graph.now.targets a.graph.now.states a.look a.i o (memory a.rows.now w)) (sym c.in-Disjunction.is)
+    ∙ ap (λ (o : Operator). node_step a.table.now.bytes.now a.graph.now.targets a.graph.now.states a.look a.i o
+    (memory a.rows.now w)) (sym c.in-Disjunction.is)
 
 pub returns-in-Next-clause-value : goal.returns-in-Next-clause-value
 unfolding node_step
@@ -103,4 +107,5 @@ unfolding node_step
 returns-in-Fixpoint-clause-value c =
     let a = c.args in
     λ w. ap (stepped a.rows.now w) (quiet_is c.default.result c.default.ensures)
-    ∙ ap (λ (o : Operator). node_step a.table.now.bytes.now a.graph.now.targets a.graph.now.states a.look a.i o (memory a.rows.now w)) (sym c.in-Fixpoint.is)
+    ∙ ap (λ (o : Operator). node_step a.table.now.bytes.now a.graph.now.targets a.graph.now.states a.look a.i o
+    (memory a.rows.now w)) (sym c.in-Fixpoint.is)

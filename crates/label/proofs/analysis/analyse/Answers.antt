@@ -20,7 +20,8 @@ by_verdict : (table list : List ℕ) (v w : Verdict) → v ≡ w → analysis_at
 by_verdict table list v w e = sym (ap (λ (u : Verdict). analysis_at u (sets_of (table_of table) list)) e)
 
 -- the list's form, as it is tested with a number that is that of the steps
-form_is : (table list : List ℕ) (e : ℕ) → e ≡ length (table_of table).steps → (v w : Verdict) → v ≡ list_verdict e list → v ≡ w
+form_is : (table list : List ℕ) (e : ℕ) → e ≡ length (table_of table).steps → (v w : Verdict)
+    → v ≡ list_verdict e list → v ≡ w
     → list_verdict (length (table_of table).steps) list ≡ w
 form_is table list e steps v w tested gives = ap (λ (k : ℕ). list_verdict k list) (sym steps) ∙ sym tested ∙ gives
 
@@ -45,7 +46,9 @@ returns-then-not-room_fits c =
 pub total_sets-requires : goal.total_sets-requires
 total_sets-requires c =
     let t = c.args.table.now in
-    form_length t.bytes.now c.args.list.now (form_is t.bytes.now c.args.list.now _ c.step_count.ensures _ (Ok tt) c.check_list.ensures.value c.in_ok-check_list.was)
+    form_length t.bytes.now c.args.list.now
+    (form_is t.bytes.now c.args.list.now _ c.step_count.ensures _
+    (Ok tt) c.check_list.ensures.value c.in_ok-check_list.was)
 
 pub returns : goal.returns
 returns c =

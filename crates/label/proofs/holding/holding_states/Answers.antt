@@ -75,7 +75,8 @@ returns-in_err-a c =
     let out = c.args.out.now in
     let r = c.in_err-a.field-0.0 in
     let gives : c.from_residual-in_err-a.result ≡ Err r = search rules in
-    let refused = way_refused (States (length out)) t l r (sym c.in_err-a.was ∙ analysis_moved (States (length out)) l _ t c.in_ok-table.ensures.0 _ c.analyse.ensures) in
+    let refused = way_refused (States (length out)) t l r
+    (sym c.in_err-a.was ∙ analysis_moved (States (length out)) l _ t c.in_ok-table.ensures.0 _ c.analyse.ensures) in
     let told = gives ∙ answer_at t l out (Err r) refused in
     let left = buffer_at t l out (Err r) refused in
     record {
@@ -92,7 +93,8 @@ write_states-requires c =
     let t = c.args.table.now in
     let l = c.args.list.now in
     let out = c.args.out.now in
-    let way = way_passed (States (length out)) t l c.in_ok-a.a (sym c.in_ok-a.was ∙ analysis_moved (States (length out)) l _ t c.in_ok-table.ensures.0 _ c.analyse.ensures) in
+    let way = way_passed (States (length out)) t l c.in_ok-a.a
+    (sym c.in_ok-a.was ∙ analysis_moved (States (length out)) l _ t c.in_ok-table.ensures.0 _ c.analyse.ensures) in
     let few = held_few (table_of t) (accepted t (table_accepted _ t l way.0)).table l in
     let fits = leb-true (length (table_of t).states) (length out) (room_accepted _ t l way.0) in
     omega (arith, ap length (states_are (table_of t) l c.in_ok-a.a way.1), few, fits)
@@ -102,7 +104,8 @@ returns c =
     let t = c.args.table.now in
     let l = c.args.list.now in
     let out = c.args.out.now in
-    let way = way_passed (States (length out)) t l c.in_ok-a.a (sym c.in_ok-a.was ∙ analysis_moved (States (length out)) l _ t c.in_ok-table.ensures.0 _ c.analyse.ensures) in
+    let way = way_passed (States (length out)) t l c.in_ok-a.a
+    (sym c.in_ok-a.was ∙ analysis_moved (States (length out)) l _ t c.in_ok-table.ensures.0 _ c.analyse.ensures) in
     let told : ◌≡◌ {A = Result ℕ Refusal} (Ok c.count.result) (holding_answer t l (length out)) =
     ap (λ (k : ℕ). Ok k) (c.count.ensures ∙ count_is (table_of t) l c.in_ok-a.a way.1) ∙ answer_at t l out (Ok tt) way.0 in
     let left = c.write_states.ensures

@@ -55,7 +55,8 @@ returns-in_err-a c =
     let entries = length (table_of t).nodes in
     let r = c.in_err-a.field-0.0 in
     let gives : c.from_residual-in_err-a.result ≡ Err r = search rules in
-    let refused = way_refused (Nodes (length out)) t l r (sym c.in_err-a.was ∙ analysis_moved (Nodes (length out)) l _ t c.in_ok-table.ensures.0 _ c.analyse.ensures) in
+    let refused = way_refused (Nodes (length out)) t l r
+    (sym c.in_err-a.was ∙ analysis_moved (Nodes (length out)) l _ t c.in_ok-table.ensures.0 _ c.analyse.ensures) in
     let told = gives ∙ sym refused in
     let left = buffer_at t l out (Err r) refused in
     record {
@@ -68,7 +69,8 @@ returns-in_err-a c =
     }
 
 -- an accepted table has at most 32 nodes, and the buffer has an entry for each
-counted : (bytes table list : List ℕ) (room : ℕ) (a : Analysis) (x : Result Analysis Refusal) → x ≡ Ok a → x ≡ analysis_of (Nodes room) bytes list → bytes ≡ table
+counted : (bytes table list : List ℕ) (room : ℕ) (a : Analysis) (x : Result Analysis Refusal) → x ≡ Ok a
+    → x ≡ analysis_of (Nodes room) bytes list → bytes ≡ table
     → (k : ℕ) → k ≡ length (table_of bytes).nodes → (k ≡ length (table_of table).nodes) × (k ≤ 32) × (k ≤ room)
 counted bytes table list room a x was gives same k e =
     let ok = (way_passed (Nodes room) table list a (sym was ∙ analysis_moved (Nodes room) list bytes table same x gives)).0 in
@@ -78,17 +80,23 @@ counted bytes table list room a x was gives same k e =
 
 pub copy_from_slice-requires : goal.copy_from_slice-requires
 copy_from_slice-requires c =
-    let k = counted _ c.args.table.now c.args.list.now (length c.args.out.now) c.in_ok-a.a _ c.in_ok-a.was c.analyse.ensures c.in_ok-table.ensures.0 c.node_count-f.result c.node_count-f.ensures in
+    let k = counted _ c.args.table.now c.args.list.now
+    (length c.args.out.now) c.in_ok-a.a _ c.in_ok-a.was c.analyse.ensures c.in_ok-table.ensures.0
+    c.node_count-f.result c.node_count-f.ensures in
     search (rules, k)
 
 pub slice_bounds-copy_from_slice-end : goal.slice_bounds-copy_from_slice-end
 slice_bounds-copy_from_slice-end c =
-    let k = counted _ c.args.table.now c.args.list.now (length c.args.out.now) c.in_ok-a.a _ c.in_ok-a.was c.analyse.ensures c.in_ok-table.ensures.0 c.node_count-f.result c.node_count-f.ensures in
+    let k = counted _ c.args.table.now c.args.list.now
+    (length c.args.out.now) c.in_ok-a.a _ c.in_ok-a.was c.analyse.ensures c.in_ok-table.ensures.0
+    c.node_count-f.result c.node_count-f.ensures in
     k.2
 
 pub slice_bounds-copy_from_slice-end-2 : goal.slice_bounds-copy_from_slice-end-2
 slice_bounds-copy_from_slice-end-2 c =
-    let k = counted _ c.args.table.now c.args.list.now (length c.args.out.now) c.in_ok-a.a _ c.in_ok-a.was c.analyse.ensures c.in_ok-table.ensures.0 c.node_count-f.result c.node_count-f.ensures in
+    let k = counted _ c.args.table.now c.args.list.now
+    (length c.args.out.now) c.in_ok-a.a _ c.in_ok-a.was c.analyse.ensures c.in_ok-table.ensures.0
+    c.node_count-f.result c.node_count-f.ensures in
     search (rules, k)
 
 pub returns : goal.returns
@@ -97,12 +105,16 @@ returns c =
     let l = c.args.list.now in
     let out = c.args.out.now in
     let entries = length (table_of t).nodes in
-    let way = way_passed (Nodes (length out)) t l c.in_ok-a.a (sym c.in_ok-a.was ∙ analysis_moved (Nodes (length out)) l _ t c.in_ok-table.ensures.0 _ c.analyse.ensures) in
-    let f = (counted _ t l (length out) c.in_ok-a.a _ c.in_ok-a.was c.analyse.ensures c.in_ok-table.ensures.0 c.node_count-f.result c.node_count-f.ensures).0 in
+    let way = way_passed (Nodes (length out)) t l c.in_ok-a.a
+    (sym c.in_ok-a.was ∙ analysis_moved (Nodes (length out)) l _ t c.in_ok-table.ensures.0 _ c.analyse.ensures) in
+    let f = (counted _ t l
+    (length out) c.in_ok-a.a _ c.in_ok-a.was c.analyse.ensures c.in_ok-table.ensures.0
+    c.node_count-f.result c.node_count-f.ensures).0 in
     let words : c.in_ok-a.a.words ≡ label_words (table_of t) l = ap (λ (x : Analysis). x.words) way.1 in
     let written : c.copy_from_slice.new.self ≡ take c.node_count-f.result c.in_ok-a.a.words = search rules in
     let told = sym way.0 in
-    let left = ap (λ (xs : List ℕ). xs ++ drop c.node_count-f.result out) written ∙ (λ i. over (f i) (words i) out) ∙ buffer_at t l out (Ok tt) way.0 in
+    let left = ap (λ (xs : List ℕ). xs ++ drop c.node_count-f.result out) written ∙ (λ i. over (f i) (words i) out)
+    ∙ buffer_at t l out (Ok tt) way.0 in
     record {
       value = told;
       out_after = left;

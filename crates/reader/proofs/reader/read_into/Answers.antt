@@ -34,7 +34,8 @@ module _ (text : List ℕ) {v : Sheet} (e : some v ≡ parse text) where
     stored : n ≤ 580 → {before after : List ℕ} → before ≡ zeros → after ≡ sets before 0 (pack v) → take n after ≡ pack v
     stored h z a =
         let few : length (pack v) ≤ length zeros = omega (arith, len, length-replicate {A = ℕ} 580 0) in
-        ap (take n) (a ∙ ap (λ (l : List ℕ). sets l 0 (pack v)) z) ∙ ap (λ (m : ℕ). take m (sets zeros 0 (pack v))) len ∙ sets_front (pack v) zeros few
+        ap (take n) (a ∙ ap (λ (l : List ℕ). sets l 0 (pack v)) z)
+        ∙ ap (λ (m : ℕ). take m (sets zeros 0 (pack v))) len ∙ sets_front (pack v) zeros few
 
 pub returns-in_default : goal.returns-in_default
 returns-in_default c =

@@ -61,7 +61,8 @@ returns-in_err-accepted c =
     let o = not_accepted a.table.now a.out.now r f.0 in
     let e : c.from_residual.result ≡ Err r = search rules in
     let why : IfErr c.from_residual.result (RenderRefused a.table.now (length a.out.now)) =
-    subst (λ (x : Answer). IfErr x (RenderRefused a.table.now (length a.out.now))) (sym e) (no_table a.table.now (length a.out.now) r f.1) in
+    subst (λ (x : Answer). IfErr x (RenderRefused a.table.now (length a.out.now))) (sym e)
+    (no_table a.table.now (length a.out.now) r f.1) in
     let no_text : IfOk c.from_residual.result (λ k. RenderIsExact a.table.now k a.out.now a.out.now) =
     subst (λ (x : Answer). IfOk x (λ k. RenderIsExact a.table.now k a.out.now a.out.now)) (sym e) tt in
     record { value = e ∙ o.0; out_after = o.1; refused = why; written = no_text; untouched = search rules }
@@ -90,7 +91,8 @@ slice_bounds-text-end c =
 pub slice_bounds-copy_from_slice-end-3 : goal.slice_bounds-copy_from_slice-end-3
 slice_bounds-copy_from_slice-end-3 c =
     let f = c.in_ok-accepted.ensures in
-    sym (length-take-le c.write_sheet-length.result c.write_sheet-length.new.text (within c.args.table.now c.type_inv.table f.1 (stored_of f.0 c.write_sheet-length.ensures)))
+    sym (length-take-le c.write_sheet-length.result c.write_sheet-length.new.text
+    (within c.args.table.now c.type_inv.table f.1 (stored_of f.0 c.write_sheet-length.ensures)))
 
 pub copy_from_slice-requires : goal.copy_from_slice-requires
 copy_from_slice-requires c =
@@ -114,6 +116,7 @@ returns c =
       value = ap Ok n ∙ o.0;
       out_after = after ∙ o.1;
       refused = tt;
-      written = subst (RenderIsExact l c.write_sheet-length.result out) (sym after) (exact l (λ i. (c.type_inv.table i).fits) f.1 out n fits);
+      written = subst (RenderIsExact l c.write_sheet-length.result out) (sym after)
+          (exact l (λ i. (c.type_inv.table i).fits) f.1 out n fits);
       untouched = tt;
     }

@@ -1,4 +1,5 @@
--- `choose` meets its contract: the rows with the step lie between what is chosen and its closure, at rest but for what reads the steps out of its state.
+-- `choose` meets its contract: the rows with the step lie between what is chosen and its closure, at rest but for
+-- what reads the steps out of its state.
 use mathlib.Core.Path.{◌≡◌, sym, subst, subst₂, ◌∙◌}
 use mathlib.Core.Bool.{Bool}
 use mathlib.Core.List.{List, ◌∷◌}
@@ -26,7 +27,8 @@ use Rattle.walk.proofs.reach.choose.Goals as goal
 use Rattle.walk.proofs.reach.choose.Goals.{then-fresh, else-fresh}
 
 module _ {T : Table} (wf : Wellformed T) {rows words : List ℕ} (sized : Sized T (memory rows words))
-    {j : ℕ} {best : Held} {find : List ℕ} {P : List (Literal ℕ)} {m : Marks} {b : Best} (g : GoesOn T j (memory rows words) best find P m b)
+    {j : ℕ} {best : Held} {find : List ℕ} {P : List (Literal ℕ)} {m : Marks} {b : Best}
+    (g : GoesOn T j (memory rows words) best find P m b)
     (sign : Bool) {next : List ℕ} (is : next ≡ with_step T rows sign j) where
   chosen : Between T (step_literals (record { sign = sign; var = j } ∷ P)) (memory next words)
   chosen = subst (λ r. Between T (step_literals (record { sign = sign; var = j } ∷ P)) (memory r words)) (sym is)
@@ -43,7 +45,8 @@ pub reach-requires-clause-sized : goal.reach-requires-clause-sized
 reach-requires-clause-sized c =
     let T = table_in c.args.net.now in
     subst (λ r. Sized T (memory r c.args.words.now)) (sym c.choose_step.ensures)
-    (chosen_sized T (net_table c.args.net.now) c.args.rows.now c.args.words.now (search rules) c.args.kept c.args.j c.requires.somewhere.3.stands.inside)
+    (chosen_sized T (net_table c.args.net.now) c.args.rows.now c.args.words.now
+    (search rules) c.args.kept c.args.j c.requires.somewhere.3.stands.inside)
 
 pub reach-requires-clause-rest_but : goal.reach-requires-clause-rest_but
 reach-requires-clause-rest_but c set told =
@@ -57,7 +60,8 @@ reach-requires-clause-rest_but c set told =
       | else-fresh w ↦ (
           let same : w.changed_by.result ≡ set = cc (w.changed-is, told) in
           subst₂ (λ r x. RestBut T x (knowledge T (memory r words))) (sym c.choose_step.ensures) (sym w.changed_by.ensures ∙ same)
-          (chosen_rest T (net_table c.args.net.now) rows words sized c.args.kept c.args.j stand.3.stands.inside (step_literals stand.0) stand.3.between.below (c.requires.resting w.if-fresh.false))
+          (chosen_rest T (net_table c.args.net.now) rows words sized c.args.kept c.args.j stand.3.stands.inside
+          (step_literals stand.0) stand.3.between.below (c.requires.resting w.if-fresh.false))
           )
     ]
 
@@ -65,5 +69,6 @@ pub returns : goal.returns
 returns c P m b g =
     let T = table_in c.args.net.now in
     let wf = net_table c.args.net.now in
-    c.reach.ensures.comes (record { sign = c.args.kept; var = c.args.j } ∷ P) b (try_fine T wf c.args.j c.args.rows.now P m g.stands c.args.kept)
+    c.reach.ensures.comes (record { sign = c.args.kept; var = c.args.j } ∷ P) b
+    (try_fine T wf c.args.j c.args.rows.now P m g.stands c.args.kept)
     (chosen wf (search rules) g c.args.kept c.choose_step.ensures) g.stores

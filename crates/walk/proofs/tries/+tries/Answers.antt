@@ -20,13 +20,31 @@ use Rattle.search.specs.Search.{Best}
 use Rattle.walk.specs.KeptWords.{Keeps}
 use Rattle.walk.specs.Stands.{GoesOn, try_from}
 use Rattle.walk.proofs.Netted.{net_table}
-use Rattle.walk.proofs.Lent.{whole_with, left_words, left_zeroed, left_whole, part_long, left_length, left_between, left_rests, lent_between, lent_rests}
+use Rattle.walk.proofs.Lent.{
+  whole_with,
+  left_words,
+  left_zeroed,
+  left_whole,
+  part_long,
+  left_length,
+  left_between,
+  left_rests,
+  lent_between,
+  lent_rests,
+}
 use Rattle.walk.proofs.TryLaws.{try_within, walk_capped, kept_cut, kept_passed, kept_then, try_ended, try_goes, try_onward}
 use Rattle.walk.proofs.tries.+tries.Goals as goal
-use Rattle.walk.proofs.tries.+tries.Goals.{kept_try-in-Ended, kept_try-in-Unsettled+in_ok-kept-in-Unsettled, kept_try-then-fresh, kept_try-else-fresh}
+use Rattle.walk.proofs.tries.+tries.Goals.{
+  kept_try-in-Ended,
+  kept_try-in-Unsettled+in_ok-kept-in-Unsettled,
+  kept_try-then-fresh,
+  kept_try-else-fresh,
+}
 
-module _ {levels room from : ℕ} {words mid : List ℕ} (keeps : Keeps levels room words mid from) {T : Table} (all : levels ≡ level_total T)
-    {rows : List ℕ} {j : ℕ} {best : Held} {find : List ℕ} {P : List (Literal ℕ)} {m : Marks} {b : Best} (g : GoesOn T j (memory rows words) best find P m b) where
+module _ {levels room from : ℕ} {words mid : List ℕ} (keeps : Keeps levels room words mid from) {T : Table}
+    (all : levels ≡ level_total T)
+    {rows : List ℕ} {j : ℕ} {best : Held} {find : List ℕ} {P : List (Literal ℕ)} {m : Marks} {b : Best}
+    (g : GoesOn T j (memory rows words) best find P m b) where
   -- where the kept try stands: at the same rows, with the words of the levels behind these
   kept_stands : GoesOn T j (memory rows (take (length mid - from) (drop from mid))) best find P m b
   kept_stands = record {
@@ -36,7 +54,8 @@ module _ {levels room from : ℕ} {words mid : List ℕ} (keeps : Keeps levels r
   }
 
   -- where the struck try stands, with what the kept one found: at the same rows
-  struck_stands : (after : List ℕ) (size : length after ≡ length (take (length mid - from) (drop from mid))) (rest : List ℕ) → rest ≡ left_words levels from mid after
+  struck_stands : (after : List ℕ) (size : length after ≡ length (take (length mid - from) (drop from mid)))
+      (rest : List ℕ) → rest ≡ left_words levels from mid after
       → {best' : Held} {find' : List ℕ} (b' : Best) → Stores T b' best' find' → GoesOn T j (memory rows rest) best' find' P m b'
   struck_stands after size rest is b' stores = record {
     stands = g.stands;
@@ -46,13 +65,16 @@ module _ {levels room from : ℕ} {words mid : List ℕ} (keeps : Keeps levels r
 
 -- some words stand from there on, and before them what stood there
 abbrev Part : ℕ → List ℕ → List ℕ → Type 0
-Part from mid whole = (after : List ℕ) × (length after ≡ length (take (length mid - from) (drop from mid))) × (whole ≡ whole_with from mid after)
+Part from mid whole =
+    (after : List ℕ) × (length after ≡ length (take (length mid - from) (drop from mid)))
+    × (whole ≡ whole_with from mid after)
 
 -- ---- the kept try
 
 pub kept_try-returns-in_default : goal.kept_try-returns-in_default
 kept_try-returns-in_default t c P m b g =
-    walk_capped (table_in c.args.net.now) c.args.choices c.args.j c.args.rows.now P m g.stands b (sym c.in_default.is ∙ c.step.ensures) c.args.find.now
+    walk_capped (table_in c.args.net.now) c.args.choices c.args.j c.args.rows.now P m g.stands b
+    (sym c.in_default.is ∙ c.step.ensures) c.args.find.now
 
 pub kept_try-choose-requires-clause-resting : goal.kept_try-choose-requires-clause-resting
 kept_try-choose-requires-clause-resting t c e =
@@ -68,9 +90,12 @@ kept_try-kept_try-requires t c =
     let stand = c.requires.somewhere in
     let all = c.args.net.now.setting.all_levels in
     let goes = try_goes _ (net_table c.args.net.now) c.args.j c.args.rows.now stand.0 stand.1 stand.3.stands true c.args.choices
-    c.in-Some.more (sym c.in-Some.is ∙ c.step.ensures) stand.2 _ _ _ _ (c.choose.ensures stand.0 stand.1 stand.2 (kept_stands c.keep-from.ensures all stand.3))
-    c.in-Unsettled.k c.in-Unsettled.is c.requires.made_le_cap in
-    (omega (arith, goes.0, c.decreases), (omega (arith, c.choose.auto.words, part_long c.keep-from.ensures, all), (goes.1, (goes.2, goes.3))))
+    c.in-Some.more (sym c.in-Some.is ∙ c.step.ensures) stand.2 _ _ _ _
+    (c.choose.ensures stand.0 stand.1 stand.2 (kept_stands c.keep-from.ensures all stand.3))
+    c.in-Unsettled.k c.in-Unsettled.is c.requires.made_le_cap in (
+      omega (arith, goes.0, c.decreases),
+      (omega (arith, c.choose.auto.words, part_long c.keep-from.ensures, all), (goes.1, (goes.2, goes.3))),
+    )
 
 pub kept_try-returns-in_err-kept-in-Unsettled : goal.kept_try-returns-in_err-kept-in-Unsettled
 kept_try-returns-in_err-kept-in-Unsettled t c P m b g =
@@ -78,7 +103,8 @@ kept_try-returns-in_err-kept-in-Unsettled t c P m b g =
     rw (p.1, p.2)
     (kept_cut (table_in c.args.net.now) c.args.choices c.args.j c.args.rows.now P m g.stands b c.kept_try.new.find c.kept_try.result
     (try_onward _ (net_table c.args.net.now) c.args.j c.args.rows.now P m g.stands true c.args.choices
-    c.in-Some.more (sym c.in-Some.is ∙ c.step.ensures) b _ _ _ _ (c.choose.ensures P m b (kept_stands c.keep-from.ensures c.args.net.now.setting.all_levels g))
+    c.in-Some.more (sym c.in-Some.is ∙ c.step.ensures) b _ _ _ _
+    (c.choose.ensures P m b (kept_stands c.keep-from.ensures c.args.net.now.setting.all_levels g))
     c.in-Unsettled.k c.in-Unsettled.is _ _ c.kept_try.ensures)
     c.in_err-kept-in-Unsettled.field-0.0 c.in_err-kept-in-Unsettled.was)
 
@@ -97,21 +123,33 @@ kept_try-struck_try-requires t c =
     let stand = c.requires.somewhere in
     let next = sym c.in-Some.is ∙ c.step.ensures in
     let comes = c.choose.ensures stand.0 stand.1 stand.2 (kept_stands keeps all stand.3) in
-    let gives : Gives T count.cap (try_from T true count.cap c.args.j stand.0 stand.2 count.made) c.match-choose.find (Ok c.match-choose.kept) =
-    elim c.match-choose.branch as (λ _. Gives T count.cap (try_from T true count.cap c.args.j stand.0 stand.2 count.made) c.match-choose.find (Ok c.match-choose.kept)) [
-      | kept_try-in-Ended w ↦ subst₂ (λ f k. Gives T count.cap (try_from T true count.cap c.args.j stand.0 stand.2 count.made) f (Ok k)) (sym w.find-is) (sym w.kept-is)
-          (try_ended T wf c.args.j rows stand.0 stand.1 stand.3.stands true count c.in-Some.more next stand.2 _ _ _ _ comes w.in-Ended.best w.in-Ended.is)
-      | kept_try-in-Unsettled+in_ok-kept-in-Unsettled w ↦ subst₂ (λ f r. Gives T count.cap (try_from T true count.cap c.args.j stand.0 stand.2 count.made) f r) (sym w.find-is)
+    let gives : Gives T count.cap (try_from T true count.cap c.args.j stand.0 stand.2 count.made) c.match-choose.find
+    (Ok c.match-choose.kept) =
+    elim c.match-choose.branch as
+    (λ _. Gives T count.cap (try_from T true count.cap c.args.j stand.0 stand.2 count.made) c.match-choose.find
+    (Ok c.match-choose.kept)) [
+      | kept_try-in-Ended w ↦
+          subst₂ (λ f k. Gives T count.cap (try_from T true count.cap c.args.j stand.0 stand.2 count.made) f (Ok k))
+          (sym w.find-is) (sym w.kept-is)
+          (try_ended T wf c.args.j rows stand.0 stand.1 stand.3.stands true count c.in-Some.more next stand.2
+          _ _ _ _ comes w.in-Ended.best w.in-Ended.is)
+      | kept_try-in-Unsettled+in_ok-kept-in-Unsettled w ↦
+          subst₂ (λ f r. Gives T count.cap (try_from T true count.cap c.args.j stand.0 stand.2 count.made) f r)
+          (sym w.find-is)
           (w.in_ok-kept-in-Unsettled.was ∙ sym (ap Ok w.kept-is))
-          (try_onward T wf c.args.j rows stand.0 stand.1 stand.3.stands true count c.in-Some.more next stand.2 _ _ _ _ comes w.in-Unsettled.k w.in-Unsettled.is _ _ w.kept_try.ensures)
+          (try_onward T wf c.args.j rows stand.0 stand.1 stand.3.stands true count c.in-Some.more next stand.2
+          _ _ _ _ comes w.in-Unsettled.k w.in-Unsettled.is _ _ w.kept_try.ensures)
     ] in
     let came : Part from mid c.match-choose.words = elim c.match-choose.branch as (λ _. Part from mid c.match-choose.words) [
       | kept_try-in-Ended w ↦ (c.choose.new.words, c.choose.auto.words, w.words-is)
-      | kept_try-in-Unsettled+in_ok-kept-in-Unsettled w ↦ (w.kept_try.new.words, w.kept_try.auto.words ∙ c.choose.auto.words, w.words-is)
+      | kept_try-in-Unsettled+in_ok-kept-in-Unsettled w ↦
+          (w.kept_try.new.words, w.kept_try.auto.words ∙ c.choose.auto.words, w.words-is)
     ] in
     let rest : c.if-fresh.words ≡ left_words c.args.net.now.bases.total from mid came.0 =
     elim c.if-fresh.branch as (λ _. c.if-fresh.words ≡ left_words c.args.net.now.bases.total from mid came.0) [
-      | kept_try-then-fresh w ↦ left_zeroed mid came.0 w.words-is (search rules ∙ ap (λ (l : List ℕ). replicate (length l) 0) came.2) (omega (arith, w.if-fresh.true))
+      | kept_try-then-fresh w ↦
+          left_zeroed mid came.0 w.words-is (search rules ∙ ap (λ (l : List ℕ). replicate (length l) 0) came.2)
+          (omega (arith, w.if-fresh.true))
       | kept_try-else-fresh w ↦ left_whole mid came.0 (w.words-is ∙ came.2) (omega (arith, w.if-fresh.false))
     ] in
     let kept = c.match-choose.kept in
@@ -120,7 +158,8 @@ kept_try-struck_try-requires t c =
       (
         omega (arith, left_length keeps came.0 came.1 _ rest, c.requires.words_room),
         (
-          try_within T wf c.args.j rows stand.0 stand.1 stand.3.stands true count c.requires.made_le_cap stand.2 c.match-choose.find (Ok kept) gives kept refl,
+          try_within T wf c.args.j rows stand.0 stand.1 stand.3.stands true count c.requires.made_le_cap stand.2
+              c.match-choose.find (Ok kept) gives kept refl,
           (
             left_rests keeps came.0 came.1 T rows all c.if-fresh.words rest c.requires.resting,
             (stand.0, stand.1, there.0, struck_stands keeps all stand.3 came.0 came.1 _ rest there.0 there.2),
@@ -142,20 +181,29 @@ kept_try-returns t c P m b g =
     let next = sym c.in-Some.is ∙ c.step.ensures in
     let comes = c.choose.ensures P m b (kept_stands keeps all g) in
     let gives : Gives T count.cap (try_from T true count.cap c.args.j P b count.made) c.match-choose.find (Ok c.match-choose.kept) =
-    elim c.match-choose.branch as (λ _. Gives T count.cap (try_from T true count.cap c.args.j P b count.made) c.match-choose.find (Ok c.match-choose.kept)) [
-      | kept_try-in-Ended w ↦ subst₂ (λ f k. Gives T count.cap (try_from T true count.cap c.args.j P b count.made) f (Ok k)) (sym w.find-is) (sym w.kept-is)
+    elim c.match-choose.branch as
+    (λ _. Gives T count.cap (try_from T true count.cap c.args.j P b count.made) c.match-choose.find
+    (Ok c.match-choose.kept)) [
+      | kept_try-in-Ended w ↦
+          subst₂ (λ f k. Gives T count.cap (try_from T true count.cap c.args.j P b count.made) f (Ok k))
+          (sym w.find-is) (sym w.kept-is)
           (try_ended T wf c.args.j rows P m g.stands true count c.in-Some.more next b _ _ _ _ comes w.in-Ended.best w.in-Ended.is)
-      | kept_try-in-Unsettled+in_ok-kept-in-Unsettled w ↦ subst₂ (λ f r. Gives T count.cap (try_from T true count.cap c.args.j P b count.made) f r) (sym w.find-is)
+      | kept_try-in-Unsettled+in_ok-kept-in-Unsettled w ↦
+          subst₂ (λ f r. Gives T count.cap (try_from T true count.cap c.args.j P b count.made) f r) (sym w.find-is)
           (w.in_ok-kept-in-Unsettled.was ∙ sym (ap Ok w.kept-is))
-          (try_onward T wf c.args.j rows P m g.stands true count c.in-Some.more next b _ _ _ _ comes w.in-Unsettled.k w.in-Unsettled.is _ _ w.kept_try.ensures)
+          (try_onward T wf c.args.j rows P m g.stands true count c.in-Some.more next b _ _ _ _ comes w.in-Unsettled.k
+          w.in-Unsettled.is _ _ w.kept_try.ensures)
     ] in
     let came : Part from mid c.match-choose.words = elim c.match-choose.branch as (λ _. Part from mid c.match-choose.words) [
       | kept_try-in-Ended w ↦ (c.choose.new.words, c.choose.auto.words, w.words-is)
-      | kept_try-in-Unsettled+in_ok-kept-in-Unsettled w ↦ (w.kept_try.new.words, w.kept_try.auto.words ∙ c.choose.auto.words, w.words-is)
+      | kept_try-in-Unsettled+in_ok-kept-in-Unsettled w ↦
+          (w.kept_try.new.words, w.kept_try.auto.words ∙ c.choose.auto.words, w.words-is)
     ] in
     let rest : c.if-fresh.words ≡ left_words c.args.net.now.bases.total from mid came.0 =
     elim c.if-fresh.branch as (λ _. c.if-fresh.words ≡ left_words c.args.net.now.bases.total from mid came.0) [
-      | kept_try-then-fresh w ↦ left_zeroed mid came.0 w.words-is (search rules ∙ ap (λ (l : List ℕ). replicate (length l) 0) came.2) (omega (arith, w.if-fresh.true))
+      | kept_try-then-fresh w ↦
+          left_zeroed mid came.0 w.words-is (search rules ∙ ap (λ (l : List ℕ). replicate (length l) 0) came.2)
+          (omega (arith, w.if-fresh.true))
       | kept_try-else-fresh w ↦ left_whole mid came.0 (w.words-is ∙ came.2) (omega (arith, w.if-fresh.false))
     ] in
     let kept = c.match-choose.kept in
@@ -180,4 +228,5 @@ struck_try-returns-in-Ended t c P m b g =
 pub struck_try-returns-in-Unsettled : goal.struck_try-returns-in-Unsettled
 struck_try-returns-in-Unsettled t c P m b g =
     try_onward _ (net_table c.args.net.now) c.args.j c.args.rows.now P m g.stands false c.args.choices
-    c.in-Some.more (sym c.in-Some.is ∙ c.step.ensures) b _ _ _ _ (c.choose.ensures P m b g) c.in-Unsettled.k c.in-Unsettled.is _ _ c.kept_try.ensures
+    c.in-Some.more (sym c.in-Some.is ∙ c.step.ensures) b _ _ _ _
+    (c.choose.ensures P m b g) c.in-Unsettled.k c.in-Unsettled.is _ _ c.kept_try.ensures

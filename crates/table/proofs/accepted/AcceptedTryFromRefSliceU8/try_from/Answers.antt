@@ -9,7 +9,20 @@ use Rattle.table.specs.declared.accepted.Accepted.{Accepted}
 use Rattle.table.specs.declared.counts.Counts.{Counts}
 use Rattle.table.specs.declared.refusal.Refusal.{Refusal}
 use Rattle.table.specs.Verdict.{◌then◌}
-use Rattle.table.specs.Table.{records, state_of, step_of, node_of, counts_of, states_part, steps_part, nodes_part, table_of, state_width, step_width, node_width}
+use Rattle.table.specs.Table.{
+  records,
+  state_of,
+  step_of,
+  node_of,
+  counts_of,
+  states_part,
+  steps_part,
+  nodes_part,
+  table_of,
+  state_width,
+  step_width,
+  node_width,
+}
 use Rattle.table.specs.Accept.{states_verdict, steps_verdict, nodes_verdict, table_verdict}
 use Rattle.table.specs.Refused.{RightLength}
 use Rattle.table.specs.From.{AcceptedFrom}
@@ -31,11 +44,17 @@ read_verdict : {l : List ℕ} {k : Counts} {states steps nodes : List ℕ}
     then nodes_verdict k.props (records node_of node_width k.nodes nodes)
 read_verdict {l = l} (here, right) s t u =
     right_verdict l right
-    ∙ ap (λ (n : ℕ). states_verdict (table_of l).props (table_of l).states then steps_verdict n (table_of l).steps then nodes_verdict (table_of l).props (table_of l).nodes) (records-length state_of state_width (counts_of l).states (states_part l))
-    ∙ sym (λ i. states_verdict (here i).props (records state_of state_width (here i).states (s i)) then steps_verdict (here i).states (records step_of step_width (here i).steps (t i)) then nodes_verdict (here i).props (records node_of node_width (here i).nodes (u i)))
+    ∙ ap (λ (n : ℕ). states_verdict (table_of l).props (table_of l).states
+    then steps_verdict n (table_of l).steps
+    then nodes_verdict (table_of l).props (table_of l).nodes)
+    (records-length state_of state_width (counts_of l).states (states_part l))
+    ∙ sym (λ i. states_verdict (here i).props (records state_of state_width (here i).states (s i))
+    then steps_verdict (here i).states (records step_of step_width (here i).steps (t i))
+    then nodes_verdict (here i).props (records node_of node_width (here i).nodes (u i)))
 
 -- an answer that gives the verdict's refusal
-refused : (l : List ℕ) {r : Refusal} (answer : Result Accepted Refusal) → answer ≡ Err r → table_verdict l ≡ Err r → AcceptedFrom l answer
+refused : (l : List ℕ) {r : Refusal} (answer : Result Accepted Refusal) → answer ≡ Err r → table_verdict l ≡ Err r
+    → AcceptedFrom l answer
 refused l {r = r} answer gives e = subst (AcceptedFrom l) (sym gives) (e, table_refused l r e)
 
 pub returns-in_err-counts : goal.returns-in_err-counts
@@ -46,14 +65,16 @@ returns-in_err-counts c =
 pub returns-in_err-check_states : goal.returns-in_err-check_states
 returns-in_err-check_states c =
     let gives : c.from_residual-in_err-check_states.result ≡ Err c.in_err-check_states.field-0.0 = search rules in
-    let read = read_verdict c.in_ok-counts.ensures.accepted c.state_section-states.ensures c.step_section-steps.ensures c.node_section-nodes.ensures in
+    let read = read_verdict c.in_ok-counts.ensures.accepted c.state_section-states.ensures
+    c.step_section-steps.ensures c.node_section-nodes.ensures in
     let first = sym c.check_states.ensures ∙ c.in_err-check_states.was in
     refused _ _ gives (read ∙ then_refused _ _ _ first ∙ first)
 
 pub returns-in_err-check_steps : goal.returns-in_err-check_steps
 returns-in_err-check_steps c =
     let gives : c.from_residual-in_err-check_steps.result ≡ Err c.in_err-check_steps.field-0.0 = search rules in
-    let read = read_verdict c.in_ok-counts.ensures.accepted c.state_section-states.ensures c.step_section-steps.ensures c.node_section-nodes.ensures in
+    let read = read_verdict c.in_ok-counts.ensures.accepted c.state_section-states.ensures
+    c.step_section-steps.ensures c.node_section-nodes.ensures in
     let first = sym c.check_states.ensures ∙ c.in_ok-check_states.was in
     let second = sym c.check_steps.ensures ∙ c.in_err-check_steps.was in
     refused _ _ gives (read ∙ then_next _ _ first ∙ then_refused _ _ _ second ∙ second)
@@ -61,14 +82,16 @@ returns-in_err-check_steps c =
 pub returns-in_err-check_nodes : goal.returns-in_err-check_nodes
 returns-in_err-check_nodes c =
     let gives : c.from_residual-in_err-check_nodes.result ≡ Err c.in_err-check_nodes.field-0.0 = search rules in
-    let read = read_verdict c.in_ok-counts.ensures.accepted c.state_section-states.ensures c.step_section-steps.ensures c.node_section-nodes.ensures in
+    let read = read_verdict c.in_ok-counts.ensures.accepted c.state_section-states.ensures
+    c.step_section-steps.ensures c.node_section-nodes.ensures in
     let first = sym c.check_states.ensures ∙ c.in_ok-check_states.was in
     let second = sym c.check_steps.ensures ∙ c.in_ok-check_steps.was in
     refused _ _ gives (read ∙ then_next _ _ first ∙ then_next _ _ second ∙ sym c.check_nodes.ensures ∙ c.in_err-check_nodes.was)
 
 pub invariant_of-result-clause-passes : goal.invariant_of-result-clause-passes
 invariant_of-result-clause-passes c =
-    let read = read_verdict c.in_ok-counts.ensures.accepted c.state_section-states.ensures c.step_section-steps.ensures c.node_section-nodes.ensures in
+    let read = read_verdict c.in_ok-counts.ensures.accepted c.state_section-states.ensures
+    c.step_section-steps.ensures c.node_section-nodes.ensures in
     let first = sym c.check_states.ensures ∙ c.in_ok-check_states.was in
     let second = sym c.check_steps.ensures ∙ c.in_ok-check_steps.was in
     read ∙ then_next _ _ first ∙ then_next _ _ second ∙ sym c.check_nodes.ensures ∙ c.in_ok-check_nodes.was

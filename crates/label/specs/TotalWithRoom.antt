@@ -1,4 +1,4 @@
--- What Label and Holding ask of their input.
+-- What Label and Holding accept.
 use Rattle.std.specs.Prelude.{ℕ, ◌≤◌, List}
 use Rattle.table.specs.Table.{table_of}
 use Rattle.table.specs.Facts.{IsTable}
