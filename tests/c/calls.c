@@ -1,5 +1,6 @@
-/* Calls the fitter from C, on the sample tables, on the largest and on damaged input. Every buffer, lent for reading or for writing, has exactly
- * the size that the call is told, and lies at each of the places of lent.h in turn. Fails on any wrong number or byte. */
+/* Calls the fitter from C, on the sample tables, on the largest and on damaged input. Every buffer, lent for reading or
+ * for writing, has exactly the size that the call is told, and lies at each of the places of lent.h in turn. Fails on
+ * any wrong number or byte. */
 #include "fitter.h"
 #include "lent.h"
 
@@ -17,8 +18,8 @@ static void expect(const char *what, unsigned got, unsigned wanted)
     }
 }
 
-/* The sample sheet's table: three states, four steps with the prices 1 to 4, the rule "always, no endless stretch of p0". Its steps begin at
- * STEPS and its nodes at NODES. */
+/* The sample sheet's table: three states, four steps with the prices 1 to 4, the rule "always, no endless stretch of
+ * p0". Its steps begin at STEPS and its nodes at NODES. */
 enum { SAMPLE = 40, STEPS = 13, NODES = 25 };
 static const uint8_t sample[SAMPLE] = {
     3, 4, 5, 1,
@@ -35,7 +36,7 @@ static const char sheet[] =
     "kind a b\n0 0 0\n2 0 0\n9 0 1\n3 2 0\n8 0 3\n";
 
 /* The same table without its prices. */
-static const uint8_t unpriced[36] = {
+static const uint8_t without_prices[36] = {
     3, 4, 5, 1,
     1, 0, 0, 0, 1, 0, 0, 1, 0,
     0, 1, 1, 0, 1, 2, 2, 2,
@@ -67,28 +68,31 @@ static unsigned judge(const uint8_t *table, size_t table_len, const uint8_t *lis
 }
 
 /* Label with room for so many entries: the answer, and every entry of the buffer. */
-static void label(const char *what, const uint8_t *table, size_t table_len, const uint8_t *list, size_t list_len, size_t room,
-                  unsigned wanted, const uint32_t *words, size_t count)
+static void label(const char *what, const uint8_t *table, size_t table_len, const uint8_t *list, size_t list_len,
+                  size_t room, unsigned wanted, const uint32_t *words, size_t count)
 {
     uint32_t *out = lend(room * sizeof *out);
-    expect(what, fitter_label(lend_copy(table, table_len), table_len, lend_copy(list, list_len), list_len, out, room), wanted);
+    const uint8_t *t = lend_copy(table, table_len), *l = lend_copy(list, list_len);
+    expect(what, fitter_label(t, table_len, l, list_len, out, room), wanted);
     expect_words(what, out, room, words, count);
     take_back();
 }
 
-static void holding(const char *what, const uint8_t *table, size_t table_len, const uint8_t *list, size_t list_len, size_t room,
-                    unsigned wanted, const uint8_t *states, size_t count)
+static void holding(const char *what, const uint8_t *table, size_t table_len, const uint8_t *list, size_t list_len,
+                    size_t room, unsigned wanted, const uint8_t *states, size_t count)
 {
     uint8_t *out = lend(room);
     uint32_t *held = lend(sizeof *held);
-    expect(what, fitter_holding(lend_copy(table, table_len), table_len, lend_copy(list, list_len), list_len, out, room, held), wanted);
+    const uint8_t *t = lend_copy(table, table_len), *l = lend_copy(list, list_len);
+    expect(what, fitter_holding(t, table_len, l, list_len, out, room, held), wanted);
     expect(what, *held, wanted == 0 ? (uint32_t)count : LENT32);
     expect_bytes(what, out, room, states, count);
     take_back();
 }
 
 /* Read: the answer, the length, and every byte of the buffer. */
-static void read_text(const char *what, const char *text, size_t text_len, size_t room, unsigned wanted, const uint8_t *table, size_t table_len)
+static void read_text(const char *what, const char *text, size_t text_len, size_t room, unsigned wanted,
+                      const uint8_t *table, size_t table_len)
 {
     uint8_t *out = lend(room);
     uint64_t *length = lend(sizeof *length);
@@ -125,7 +129,8 @@ static void sheets(void)
 /* A step's line has three values, and the third one has a name. */
 static void sheet_prices(void)
 {
-    static const char heads[] = "states edges nodes props\n1 1 1 0\ninitial label\n1 0\n", nodes[] = "kind a b\n1 0 0\n";
+    static const char heads[] = "states edges nodes props\n1 1 1 0\ninitial label\n1 0\n";
+    static const char nodes[] = "kind a b\n1 0 0\n";
     static const struct {
         const char *steps;
         unsigned number;
@@ -176,8 +181,8 @@ static void samples(void)
     expect("judge 0 0 0 1", judge(sample, SAMPLE, far, 4), 12);
     expect("judge 0 0 0 0", judge(sample, SAMPLE, none, 4), 12);
 
-    /* p0 at states 1 and 2; an endless stretch of it only from the loop at 2; so the rule holds at 0 and 1. That 2 is not reached matters to the
-     * judge alone. */
+    /* p0 at states 1 and 2; an endless stretch of it only from the loop at 2; so the rule holds at 0 and 1. That 2 is
+     * not reached matters to the judge alone. */
     static const uint32_t words[5] = {0, 6, 4, 3, 3};
     static const uint8_t states[2] = {0, 1};
     label("label 1 1 0 1", sample, SAMPLE, kept, 4, 5, 0, words, 5);
@@ -199,7 +204,8 @@ static void samples(void)
 }
 
 /* The same damage to each of the three calls. */
-static void damaged(const char *what, const uint8_t *table, size_t table_len, const uint8_t *list, size_t list_len, unsigned wanted)
+static void damaged(const char *what, const uint8_t *table, size_t table_len, const uint8_t *list, size_t list_len,
+                    unsigned wanted)
 {
     expect(what, judge(table, table_len, list, list_len), wanted);
     label(what, table, table_len, list, list_len, 32, wanted, NULL, 0);
@@ -216,7 +222,7 @@ static void refusals(void)
     damaged("3 bytes", sample, 3, list, 4, 2);
     damaged("a byte short", sample, SAMPLE - 1, list, 4, 2);
     damaged("a byte long", longer, SAMPLE + 1, list, 4, 2);
-    damaged("no prices", unpriced, sizeof unpriced, list, 4, 2);
+    damaged("no prices", without_prices, sizeof without_prices, list, 4, 2);
     damaged("list a byte short", sample, SAMPLE, list, 3, 9);
     damaged("list a byte long", sample, SAMPLE, list, 5, 9);
     damaged("no list", sample, SAMPLE, NULL, 0, 9);
@@ -240,7 +246,8 @@ struct repaired {
 /* A room with some to spare; the bytes and the variables of the largest table. */
 enum { ROOM = 256, LARGEST = 580, VARIABLES = 223392 };
 
-static struct repaired found(uint64_t choices, uint32_t price, uint32_t settled, const uint8_t *list, size_t list_len, size_t variables)
+static struct repaired found(uint64_t choices, uint32_t price, uint32_t settled, const uint8_t *list, size_t list_len,
+                             size_t variables)
 {
     struct repaired wanted = {0, choices, price, settled, list, list_len, variables};
     return wanted;
@@ -270,14 +277,17 @@ static void expect_zeros(const char *what, const uint8_t *bytes, const uint32_t 
 }
 
 /* Repair: the answer, the choices, the price, the settled steps, and every entry of the three buffers. */
-static void repair(const char *what, const uint8_t *table, size_t table_len, uint64_t cap, struct room room, struct repaired wanted)
+static void repair(const char *what, const uint8_t *table, size_t table_len, uint64_t cap, struct room room,
+                   struct repaired wanted)
 {
     uint8_t *list = lend(room.list), *bytes = lend(room.bytes);
     uint32_t *words = lend(room.words * sizeof *words);
     uint64_t *choices = lend(sizeof *choices);
     uint32_t *price = lend(sizeof *price), *settled = lend(sizeof *settled);
     const uint8_t *copy = lend_copy(table, table_len);
-    expect(what, fitter_repair(copy, table_len, cap, list, room.list, bytes, room.bytes, words, room.words, choices, price, settled), wanted.number);
+    unsigned number = fitter_repair(copy, table_len, cap, list, room.list, bytes, room.bytes, words, room.words,
+                                    choices, price, settled);
+    expect(what, number, wanted.number);
     expect(what, *choices == wanted.choices, 1);
     expect(what, *price, wanted.price);
     expect(what, *settled, wanted.settled);
@@ -290,7 +300,8 @@ static void repair(const char *what, const uint8_t *table, size_t table_len, uin
 static void repairs_at(const char *what, const uint8_t *table, size_t table_len, uint64_t cap, struct repaired wanted)
 {
     size_t e = table[1], v = wanted.variables;
-    struct room needed = {e, v, v}, more = {ROOM, ROOM, ROOM}, list = {e - 1, v, v}, bytes = {e, v - 1, v}, words = {e, v, v - 1};
+    struct room needed = {e, v, v}, more = {ROOM, ROOM, ROOM};
+    struct room list = {e - 1, v, v}, bytes = {e, v - 1, v}, words = {e, v, v - 1};
     repair(what, table, table_len, cap, needed, wanted);
     repair(what, table, table_len, cap, more, wanted);
     if (e > 0)
@@ -299,8 +310,9 @@ static void repairs_at(const char *what, const uint8_t *table, size_t table_len,
     repair(what, table, table_len, cap, words, refused(10));
 }
 
-/* So many steps among 12 states, ten at least out of each, and the rule "true": every step is chosen, and kept, at the price 0. Nothing undercuts
- * that, so each step's struck try fails at once. No step leads to state 11, so those out of it are struck in the end. */
+/* So many steps among 12 states, ten at least out of each, and the rule "true": every step is chosen, and kept, at the
+ * price 0. Nothing undercuts that, so each step's struck try fails at once. No step leads to state 11, so those out of
+ * it are struck in the end. */
 static size_t many_steps(uint8_t *table, unsigned steps)
 {
     const uint8_t counts[4] = {12, (uint8_t)steps, 1, 0}, node[3] = {1, 0, 0};
@@ -328,7 +340,9 @@ static void repair_no_list(const uint8_t *no_step)
     uint64_t *choices = lend(sizeof *choices);
     uint32_t *price = lend(sizeof *price), *settled = lend(sizeof *settled);
     struct room room = {0, 2, 2};
-    expect("repair with no list", fitter_repair(lend_copy(no_step, 10), 10, 0, NULL, 0, bytes, 2, words, 2, choices, price, settled), 14);
+    const uint8_t *copy = lend_copy(no_step, 10);
+    unsigned number = fitter_repair(copy, 10, 0, NULL, 0, bytes, 2, words, 2, choices, price, settled);
+    expect("repair with no list", number, 14);
     expect("repair with no list: choices", *choices == 0, 1);
     expect("repair with no list: price", *price, 0);
     expect("repair with no list: settled steps", *settled, 0);
@@ -336,9 +350,10 @@ static void repair_no_list(const uint8_t *no_step)
     take_back();
 }
 
-/* The sample makes 6 choices whatever its prices, and strikes the step 1 2 before what is not reached: that one's price is reported, not that of
- * the loop at 2. It is found with 4 of the choices; with these spent, or one more, it is lost. Before the first choice one step is settled, that
- * from 0 to 1, the only one out of the initial state; at any price and with any cap. */
+/* The sample makes 6 choices whatever its prices, and strikes the step 1 2 before what is not reached: that one's price
+ * is reported, not that of the loop at 2. It is found with 4 of the choices; with these spent, or one more, it is lost.
+ * Before the first choice one step is settled, that from 0 to 1, the only one out of the initial state; at any price
+ * and with any cap. */
 static void sample_prices(void)
 {
     static const uint8_t kept[4] = {1, 1, 0, 0};
@@ -353,13 +368,15 @@ static void sample_prices(void)
             struct room needed = {4, 100, 100};
             memcpy(table, sample, SAMPLE);
             table[STEPS + 3 * step + 2] = (uint8_t)price;
-            repair("repair the sheet with another price", table, SAMPLE, 6, needed, found(6, table[STEPS + 8], 1, kept, 4, 100));
+            repair("repair the sheet with another price", table, SAMPLE, 6, needed,
+                   found(6, table[STEPS + 8], 1, kept, 4, 100));
             repair("repair the sheet with another price, cap 5", table, SAMPLE, 5, needed, stopped(15, 5, 1, 100));
         }
 }
 
-/* From state 0 one of two steps may stay, that to state 1 or that to state 2; each of these has a loop. To keep the first ranks first, and costs
- * what the second does. Where the first costs less than the second, it is struck, after a find at the second's price. */
+/* From state 0 one of two steps may stay, that to state 1 or that to state 2; each of these has a loop. To keep the
+ * first ranks first, and costs what the second does. Where the first costs less than the second, it is struck, after a
+ * find at the second's price. */
 static void either_step(uint8_t first, uint8_t second)
 {
     static const uint8_t to_1[4] = {1, 0, 1, 0}, to_2[4] = {0, 1, 0, 1};
@@ -377,8 +394,8 @@ static void either_step(uint8_t first, uint8_t second)
         repairs_at("repair one of two steps, spent", table, 40, cap, stopped(15, cap, 0, 30));
 }
 
-/* State 0 may keep its loop or the way round by state 1, not both. To strike the loop settles every step with no choice more; it is a find only
- * where it costs less, not where it costs the same. */
+/* State 0 may keep its loop or the way round by state 1, not both. To strike the loop settles every step with no choice
+ * more; it is a find only where it costs less, not where it costs the same. */
 static void loop_or_round(uint8_t first, uint8_t second)
 {
     static const uint8_t by_loop[3] = {1, 0, 0}, round[3] = {0, 1, 1};
@@ -388,14 +405,15 @@ static void loop_or_round(uint8_t first, uint8_t second)
         0, 0, first, 0, 1, second, 1, 0, 7,
         2, 0, 0, 3, 0, 0, 6, 0, 0, 6, 1, 0, 5, 2, 3,
     };
-    const struct repaired wanted = first < second ? found(4, first, 0, round, 3, 21) : found(4, second, 0, by_loop, 3, 21);
+    const struct repaired wanted =
+        first < second ? found(4, first, 0, round, 3, 21) : found(4, second, 0, by_loop, 3, 21);
     repairs_at("repair a loop or a way round", table, 34, 4, wanted);
     for (uint64_t cap = 0; cap < 4; cap++)
         repairs_at("repair a loop or a way round, spent", table, 34, cap, stopped(15, cap, 0, 21));
 }
 
-/* A loop at state 0, and 127 steps at 255 each that only lead to dead ends: they are struck before any choice, and no repair costs more. The loop is
- * kept before any choice too, so all 128 are settled, and no table settles more. */
+/* A loop at state 0, and 127 steps at 255 each that only lead to dead ends: they are struck before any choice, and no
+ * repair costs more. The loop is kept before any choice too, so all 128 are settled, and no table settles more. */
 static void dearest(void)
 {
     const uint8_t counts[4] = {32, 128, 1, 0}, node[3] = {1, 0, 0};
@@ -413,8 +431,8 @@ static void dearest(void)
     repairs_at("repair at the highest price", table, sizeof table, 0, found(0, 127 * 255, 128, list, 128, 192));
 }
 
-/* Two of five steps lead to a dead end, state 2. They are struck before any choice, and count as kept ones would. Nothing is known of the other three
- * by then, though the loop at 1 has to stay once the step to 1 does. */
+/* Two of five steps lead to a dead end, state 2. They are struck before any choice, and count as kept ones would.
+ * Nothing is known of the other three by then, though the loop at 1 has to stay once the step to 1 does. */
 static void dead_ends(void)
 {
     static const uint8_t list[5] = {1, 0, 1, 1, 0};
@@ -429,8 +447,8 @@ static void dead_ends(void)
         repairs_at("repair with dead ends, spent", table, 31, cap, stopped(15, cap, 2, 11));
 }
 
-/* From state 0 one step leads to state 1 and its loop. Both have to stay: with the rule "true" (kind 1) they are settled, and that is all. With
- * "false" (kind 0) the closure fails, and then they do not count. */
+/* From state 0 one step leads to state 1 and its loop. Both have to stay: with the rule "true" (kind 1) they are
+ * settled, and that is all. With "false" (kind 0) the closure fails, and then they do not count. */
 static void one_way(uint8_t kind)
 {
     static const uint8_t list[2] = {1, 1};
@@ -438,8 +456,8 @@ static void one_way(uint8_t kind)
     repairs_at("repair one way on", table, 19, 0, kind == 1 ? found(0, 0, 2, list, 2, 6) : stopped(14, 0, 0, 6));
 }
 
-/* Three steps in a row lead to a dead end and are struck one after the other. Without a loop at state 0 nothing is left to keep, so the closure fails
- * and none of them counts; with it they count, and so does the loop. */
+/* Three steps in a row lead to a dead end and are struck one after the other. Without a loop at state 0 nothing is left
+ * to keep, so the closure fails and none of them counts; with it they count, and so does the loop. */
 static void way_to_dead_end(uint8_t loops)
 {
     static const uint8_t list[4] = {0, 0, 0, 1};
@@ -447,11 +465,12 @@ static void way_to_dead_end(uint8_t loops)
     const size_t len = 19u + 3u * e;
     uint8_t table[31] = {4, e, 1, 0, 1, 0, 0, 0, 0, 0, 0, 0, 0, 0, 0, 0, 0, 1, 1, 1, 2, 2, 2, 3, 4};
     table[len - 3] = 1;
-    repairs_at("repair a way to a dead end", table, len, 0, loops ? found(0, 7, 4, list, 4, 12) : stopped(14, 0, 0, 11));
+    const struct repaired wanted = loops ? found(0, 7, 4, list, 4, 12) : stopped(14, 0, 0, 11);
+    repairs_at("repair a way to a dead end", table, len, 0, wanted);
 }
 
-/* The rule says of the step from 0 to 1, in two ways, that it is kept and is struck. Each choice of it fails, so there is none; but the closure of
- * nothing does not fail, and has the step to the dead end settled as struck. */
+/* The rule says of the step from 0 to 1, in two ways, that it is kept and is struck. Each choice of it fails, so there
+ * is none; but the closure of nothing does not fail, and has the step to the dead end settled as struck. */
 static void none_with_settled(void)
 {
     static const uint8_t table[43] = {
@@ -495,13 +514,15 @@ static void repairs(void)
         const uint8_t release[19] = {1, 1, 3, 2, 1, label, 0, 0, 0, 8, 2, 0, 0, 2, 1, 0, 8, 0, 1};
         repairs_at("repair a release", release, 19, 0, label < 2 ? stopped(14, 0, 0, 9) : found(0, 0, 1, loop, 1, 9));
     }
-    /* p0 until p1, and p1 eventually or always, there: all say p1. Kinds 12 to 15 have a variable less for each level and state. */
+    /* p0 until p1, and p1 eventually or always, there: all say p1. Kinds 12 to 15 have a variable less for each level
+     * and state. */
     for (uint8_t label = 0; label < 4; label++) {
         for (uint8_t kind = 10; kind < 16; kind++) {
             const uint8_t a = kind < 12 ? 0 : 1, b = kind < 12 ? 1 : 0;
             const uint8_t rule[19] = {1, 1, 3, 2, 1, label, 0, 0, 0, 8, 2, 0, 0, 2, 1, 0, kind, a, b};
             const size_t v = kind < 12 ? 9 : 8;
-            repairs_at("repair a fixed point", rule, 19, 0, label < 2 ? stopped(14, 0, 0, v) : found(0, 0, 1, loop, 1, v));
+            const struct repaired wanted = label < 2 ? stopped(14, 0, 0, v) : found(0, 0, 1, loop, 1, v);
+            repairs_at("repair a fixed point", rule, 19, 0, wanted);
         }
     }
     repairs_at("repair with two initial states", starts, 19, 0, found(0, 6, 2, first, 2, 6));
@@ -522,8 +543,8 @@ static void repairs(void)
     repair("repair 129 steps", table, len, 256, room, refused(3));
 }
 
-/* 32 states, 128 steps and 32 nodes: "true", and over it 31 times "true releases", which is true. All steps lead to states 0 to 3, and 0 alone is
- * initial, so these four are reached and no other. */
+/* 32 states, 128 steps and 32 nodes: "true", and over it 31 times "true releases", which is true. All steps lead to
+ * states 0 to 3, and 0 alone is initial, so these four are reached and no other. */
 static void largest(uint8_t *table)
 {
     const uint8_t counts[4] = {32, 128, 32, 0}, first[3] = {1, 0, 0};
@@ -600,7 +621,8 @@ static void largest_calls(void)
     for (unsigned s = 0; s < 32; s++)
         table[4 + 3 * s] = 1;
     expect("judge the largest table, all states initial", judge(table, LARGEST, all, 128), 0);
-    repair("repair the largest table, all states initial", table, LARGEST, 256, needed, found(256, 0, 0, all, 128, VARIABLES));
+    repair("repair the largest table, all states initial", table, LARGEST, 256, needed,
+           found(256, 0, 0, all, 128, VARIABLES));
     largest(table);
     repair("repair the largest table", table, LARGEST, 256, needed, found(256, 0, 0, reached, 128, VARIABLES));
     repair("repair the largest table, cap 255", table, LARGEST, 255, needed, stopped(15, 255, 0, VARIABLES));
@@ -639,8 +661,8 @@ static void repair_changed(const char *what, size_t at, unsigned value, unsigned
     repair_damaged(what, table, SAMPLE, wanted);
 }
 
-/* Any byte changed, to any value: the judge gives a number of its own, whether or not every kept step is reached, and what it refuses of the table,
- * Repair refuses with the same number. A price is nothing to the judge. */
+/* Any byte changed, to any value: the judge gives a number of its own, whether or not every kept step is reached, and
+ * what it refuses of the table, Repair refuses with the same number. A price is nothing to the judge. */
 static void any_byte_changed(void)
 {
     static const uint8_t loop[4] = {1, 1, 0, 1}, cut[4] = {1, 1, 0, 0};
@@ -679,7 +701,7 @@ static void repair_refusals(void)
     repair_damaged("repair 3 bytes", sample, 3, 2);
     repair_damaged("repair a byte short", sample, SAMPLE - 1, 2);
     repair_damaged("repair a byte long", longer, SAMPLE + 1, 2);
-    repair_damaged("repair without prices", unpriced, sizeof unpriced, 2);
+    repair_damaged("repair without prices", without_prices, sizeof without_prices, 2);
     repair_changed("repair 33 states", 0, 33, 3);
     repair_changed("repair 4 states", 0, 4, 2);
     repair_changed("repair initial 2", 4, 2, 4);

@@ -4,8 +4,9 @@
 
 #include <stddef.h>
 
-/* Where it lies: on the heap; right before a page that nobody may touch; right after one. The library is compiled without the sanitizers'
- * checks, so they see of its accesses only calls of memcpy and memset. The pages stop every access. */
+/* Where it lies: on the heap; right before a page that nobody may touch; right after one. The library is compiled
+ * without the sanitizers' checks, so they see of its accesses only calls of memcpy and memset. The pages stop every
+ * access. */
 enum place { ON_HEAP, BEFORE_PAGE, AFTER_PAGE };
 
 /* For all that is lent from here on. */

@@ -1,6 +1,6 @@
-// Repair's search a second time, in the plain way: the net as explicit clauses, and the search over them with a counter for each clause and a
-// trail to undo. The list that it finds is the one before striking. Written from the scope's text and A1, A4 and A5 of document 02; it has nothing
-// of the library.
+// Repair's search a second time, in the plain way: the net as explicit clauses (Specification, "Net"), and the search
+// over them (Specification, "Closure" and "Search") with a counter for each clause and a trail to undo. The list that
+// it finds is the one before striking. Written from the specification; it has nothing of the library.
 #![allow(dead_code)]
 
 // A literal is twice its variable's number, and one more where it is the opposite. Steps are the first variables.
@@ -42,7 +42,8 @@ impl Net {
 
     // A gate for each step, then for each state one over the steps out of it: what kind 6 (or 7) says of the row x.
     fn next(&mut self, every: bool, steps: &Steps, x: &[Literal]) -> Vec<Literal> {
-        let gates: Vec<Literal> = steps.ends.iter().enumerate().map(|(j, &t)| self.gate(!every, &[2 * j ^ every as usize, x[t]])).collect();
+        let gates: Vec<Literal> =
+            steps.ends.iter().enumerate().map(|(j, &t)| self.gate(!every, &[2 * j ^ every as usize, x[t]])).collect();
         steps.out.iter().map(|out| self.gate(every, &out.iter().map(|&j| gates[j]).collect::<Vec<_>>())).collect()
     }
 
@@ -51,8 +52,8 @@ impl Net {
         x.iter().zip(y).map(|(&l, &m)| self.gate(all, &[l, m])).collect()
     }
 
-    // Levels 0 to n of kinds 8 to 15, the even ones over every step. Level 0 has b alone, or a where there is no b. Each later level is an AND of
-    // that and the rest for release and always, an OR for until and eventually.
+    // Levels 0 to n of kinds 8 to 15, the even ones over every step. Level 0 has b alone, or a where there is no b.
+    // Each later level is an AND of that and the rest for release and always, an OR for until and eventually.
     fn levels(&mut self, kind: u8, steps: &Steps, a: &[Literal], b: &[Literal]) -> Vec<Literal> {
         let (two, all) = (kind < 12, [8, 9, 14, 15].contains(&kind));
         let alone = if two { b } else { a };
@@ -79,7 +80,8 @@ pub fn net(table: &[u8]) -> Net {
     let steps = Steps { ends, out };
 
     let mut net = Net { steps: e, variables: e, prices, starts: vec![0], literals: vec![] };
-    let kept: Vec<Literal> = steps.out.iter().map(|out| net.gate(false, &out.iter().map(|j| 2 * j).collect::<Vec<_>>())).collect();
+    let kept: Vec<Literal> =
+        steps.out.iter().map(|out| net.gate(false, &out.iter().map(|j| 2 * j).collect::<Vec<_>>())).collect();
     let mut x: Vec<Vec<Literal>> = vec![];
     for node in nodes.chunks(3) {
         let (kind, a, b) = (node[0], node[1] as usize, node[2] as usize);
@@ -211,8 +213,8 @@ impl<'a> Search<'a> {
         self.done = self.done.min(mark);
     }
 
-    // Tries everything from here on and keeps the cheapest find; false where the choices are spent before. The steps before `from` are settled.
-    // What costs as much as a find fails, so of finds at one price the first stays.
+    // Tries everything from here on and keeps the cheapest find; false where the choices are spent before. The steps
+    // before `from` are settled. What costs as much as a find fails, so of finds at one price the first stays.
     fn search(&mut self, from: usize) -> bool {
         if !self.close() || self.cheapest.as_ref().is_some_and(|(price, _)| self.price >= *price) {
             return true;
@@ -263,4 +265,27 @@ pub fn search(net: &Net, cap: u64) -> Answer {
 
 pub fn repair(table: &[u8], cap: u64) -> Answer {
     search(&net(table), cap)
+}
+
+// A literal as a number: the variable's, from 1 on, with a minus sign where it is the opposite.
+fn signed(l: Literal) -> i64 {
+    let v = l as i64 / 2 + 1;
+    if l % 2 == 0 { v } else { -v }
+}
+
+// The clauses in their order.
+pub fn clauses(net: &Net) -> Vec<Vec<i64>> {
+    let bounds = net.starts.windows(2).map(|w| w[0] as usize..w[1] as usize);
+    bounds.map(|part| net.literals[part].iter().map(|&l| signed(l as usize)).collect()).collect()
+}
+
+// The literals of steps in the closure of some; none where it fails.
+pub fn closure(net: &Net, chosen: &[i64]) -> Option<Vec<i64>> {
+    let mut search = Search::new(net, 0);
+    for &l in chosen {
+        search.add(2 * (l.unsigned_abs() as usize - 1) + (l < 0) as usize);
+    }
+    let closed = search.close_nothing();
+    let steps = search.trail.iter().filter(|&&l| l / 2 < net.steps);
+    closed.then(|| steps.map(|&l| signed(l)).collect())
 }

@@ -1,11 +1,9 @@
-// Runs the program fit on every vector of the files of sheets, on every example, and on inputs at the limits of reading, and compares what it
-// prints byte by byte. A vector: the text, Read's number, and the program's output, texts in hex and `-` for no bytes. The files after the word
-// `unpriced` have no price: their steps get the price 0. In those after the word `unstruck` the output has the list before striking besides: it is
-// struck here.
-mod clauses;
-mod packing;
-mod striking;
-mod unpriced;
+// Runs the program fit on every line of a file of sheets, on every example, and on inputs at the limits of reading, and
+// compares what it prints byte by byte. Arguments: the program, the folder of the examples, the file, and how many
+// lines it has behind the names.
+//
+// A line: the text; Read's number, which `sheets` looks at; and what the program prints, as bytes.
+mod vectors;
 
 use std::io::{Read, Write};
 use std::process::{Command, Stdio};
@@ -14,9 +12,6 @@ use std::time::Duration;
 const REFUSED_1: &[u8] = b"answer number\nrefused 1\n";
 const REFUSED_3: &[u8] = b"answer number\nrefused 3\n";
 
-// The program's own.
-const CAP: u64 = 1_000_000;
-
 struct Tally {
     program: String,
     runs: usize,
@@ -24,9 +19,11 @@ struct Tally {
 }
 
 impl Tally {
-    // The parts go to the program one by one, with a pause before each but the first. A program that has read enough may stop before the last.
+    // The parts go to the program one by one, with a pause before each but the first. A program that has read enough
+    // may stop before the last.
     fn check(&mut self, name: &str, parts: &[&[u8]], wanted: &[u8]) {
-        let mut child = Command::new(&self.program).stdin(Stdio::piped()).stdout(Stdio::piped()).spawn().expect("the program");
+        let mut child =
+            Command::new(&self.program).stdin(Stdio::piped()).stdout(Stdio::piped()).spawn().expect("the program");
         let mut input = child.stdin.take().unwrap();
         for (k, part) in parts.iter().enumerate() {
             if k > 0 {
@@ -56,52 +53,15 @@ impl Tally {
     }
 }
 
-fn unhex(s: &str) -> Vec<u8> {
-    if s == "-" {
-        return Vec::new();
-    }
-    (0..s.len() / 2).map(|i| u8::from_str_radix(&s[2 * i..2 * i + 2], 16).expect("hex")).collect()
-}
-
-// The output with its list struck. The steps stand in the output, and in the sheet which states are initial. Without a list it stays.
-fn struck(sheet: &[u8], output: Vec<u8>) -> Vec<u8> {
-    let (sheet, text) = (String::from_utf8_lossy(sheet), String::from_utf8(output).expect("an output"));
-    let Some((head, rows)) = text.split_once("from to kept\n") else { return text.into_bytes() };
-    let initial: Vec<bool> = sheet.lines().skip(3).take_while(|&line| line != "from to price").map(|line| line.starts_with("1 ")).collect();
-    let rows: Vec<Vec<usize>> = rows.lines().map(|row| row.split(' ').map(|x| x.parse().expect("a number")).collect()).collect();
-    let steps: Vec<(usize, usize)> = rows.iter().map(|row| (row[0], row[1])).collect();
-    let list: Vec<u8> = rows.iter().map(|row| row[2] as u8).collect();
-    let mut struck = format!("{head}from to kept\n");
-    for ((from, to), kept) in steps.iter().zip(striking::strike(&initial, &steps, &list)) {
-        struck += &format!("{from} {to} {kept}\n");
-    }
-    struck.into_bytes()
-}
-
-// The output with the price 0. What was found is found still, but the search goes on behind it, and the plain search says how far. Without choices
-// the output stays.
-fn priced(sheet: &[u8], output: Vec<u8>) -> Vec<u8> {
-    let text = String::from_utf8(output).expect("an output");
-    let Some(("answer choices", rest)) = text.split_once('\n') else { return text.into_bytes() };
-    let (answer, list) = rest.split_once('\n').expect("a second line");
-    let (word, choices) = answer.split_once(' ').expect("the choices");
-    let choices = if word == "found" { clauses::repair(&packing::packed(sheet), CAP).choices } else { choices.parse().expect("a number") };
-    format!("answer choices price\n{word} {choices} 0\n{list}").into_bytes()
-}
-
-fn run_file(t: &mut Tally, file: &str, unpriced: bool, unstruck: bool) {
-    let text = std::fs::read_to_string(file).expect("the vectors");
-    for (k, line) in text.lines().enumerate().skip(1) {
-        let columns: Vec<&str> = line.split('\t').collect();
-        let (sheet, output) = (unhex(columns[0]), unhex(columns[2]));
-        let sheet = if unpriced { unpriced::sheet(&sheet) } else { sheet };
-        let output = if unpriced { priced(&sheet, output) } else { output };
-        let output = if unstruck { struck(&sheet, output) } else { output };
-        t.check(&format!("{file}:{}", k + 1), &[&sheet], &output);
+fn run_vectors(t: &mut Tally, file: &str) {
+    for (k, columns) in vectors::read(file).iter().enumerate() {
+        let (sheet, output) = (vectors::bytes(&columns[0]), vectors::bytes(&columns[2]));
+        t.check(&format!("{file}:{}", k + 2), &[&sheet], &output);
     }
 }
 
-// A text of sheet form of exactly this length, with more states and steps than a table may have: read whole it is refused with 3.
+// A text of sheet form of exactly this length, with more states and steps than a table may have: read whole it is
+// refused with 3.
 fn of_length(length: usize) -> Vec<u8> {
     let names = ["states edges nodes props\n255 255 1 0\ninitial label\n", "from to price\n", "kind a b\n1 0 0\n"];
     let mut extra = length - names.iter().map(|n| n.len()).sum::<usize>() - 255 * 4 - 255 * 6;
@@ -140,20 +100,11 @@ fn run_limits(t: &mut Tally, sheet: &[u8], output: &[u8]) {
 
 fn main() {
     let args: Vec<String> = std::env::args().collect();
-    let [_, program, examples, files @ ..] = &args[..] else { panic!("fit_sheets PROGRAM EXAMPLES VECTORS.. unpriced VECTORS.. unstruck VECTORS..") };
+    let [_, program, examples, file, _] = &args[..] else { panic!("fit_sheets PROGRAM EXAMPLES VECTORS COUNT") };
     let mut t = Tally { program: program.clone(), runs: 0, agreed: 0 };
-    let mut failed = false;
-    let (mut unpriced, mut unstruck) = (false, false);
-    for file in files {
-        match file.as_str() {
-            "unpriced" => unpriced = true,
-            "unstruck" => unstruck = true,
-            _ => {
-                run_file(&mut t, file, unpriced, unstruck);
-                t.report(file, &mut failed);
-            }
-        }
-    }
+    run_vectors(&mut t, file);
+    let mut failed = t.runs != vectors::wanted(4);
+    t.report(file, &mut failed);
     for entry in std::fs::read_dir(examples).expect("the examples") {
         let path = entry.expect("an example").path();
         if path.extension().is_some_and(|x| x == "sheet") {
@@ -163,7 +114,7 @@ fn main() {
         }
     }
     t.report("examples", &mut failed);
-    let sheet = std::fs::read(format!("{examples}/page-notes.sheet")).expect("01's sheet");
+    let sheet = std::fs::read(format!("{examples}/page-notes.sheet")).expect("the sample sheet");
     let output = std::fs::read(format!("{examples}/page-notes.out")).expect("its output");
     run_limits(&mut t, &sheet, &output);
     t.report("limits of reading", &mut failed);

@@ -3,12 +3,17 @@
 
 extern "C" {
     fn fitter_judge(table: *const u8, table_len: usize, list: *const u8, list_len: usize) -> u32;
-    fn fitter_label(table: *const u8, table_len: usize, list: *const u8, list_len: usize, out: *mut u32, out_len: usize) -> u32;
-    fn fitter_holding(table: *const u8, table_len: usize, list: *const u8, list_len: usize, out: *mut u8, out_len: usize, count: *mut u32) -> u32;
+    fn fitter_label(
+        table: *const u8, table_len: usize, list: *const u8, list_len: usize, out: *mut u32, out_len: usize,
+    ) -> u32;
+    fn fitter_holding(
+        table: *const u8, table_len: usize, list: *const u8, list_len: usize, out: *mut u8, out_len: usize,
+        count: *mut u32,
+    ) -> u32;
     fn fitter_read(text: *const u8, text_len: usize, out: *mut u8, out_len: usize, length: *mut u64) -> u32;
     fn fitter_repair(
-        table: *const u8, table_len: usize, cap: u64, list: *mut u8, list_len: usize, bytes: *mut u8, bytes_len: usize, words: *mut u32, words_len: usize,
-        choices: *mut u64, price: *mut u32, settled: *mut u32,
+        table: *const u8, table_len: usize, cap: u64, list: *mut u8, list_len: usize, bytes: *mut u8, bytes_len: usize,
+        words: *mut u32, words_len: usize, choices: *mut u64, price: *mut u32, settled: *mut u32,
     ) -> u32;
 }
 
@@ -21,7 +26,9 @@ pub fn label(table: &[u8], list: &[u8], out: &mut [u32]) -> u32 {
 }
 
 pub fn holding(table: &[u8], list: &[u8], out: &mut [u8], count: &mut u32) -> u32 {
-    unsafe { fitter_holding(table.as_ptr(), table.len(), list.as_ptr(), list.len(), out.as_mut_ptr(), out.len(), count) }
+    unsafe {
+        fitter_holding(table.as_ptr(), table.len(), list.as_ptr(), list.len(), out.as_mut_ptr(), out.len(), count)
+    }
 }
 
 pub fn read(text: &[u8], out: &mut [u8], length: &mut u64) -> u32 {
@@ -29,12 +36,13 @@ pub fn read(text: &[u8], out: &mut [u8], length: &mut u64) -> u32 {
 }
 
 pub fn repair(
-    table: &[u8], cap: u64, list: &mut [u8], bytes: &mut [u8], words: &mut [u32], choices: &mut u64, price: &mut u32, settled: &mut u32,
+    table: &[u8], cap: u64, list: &mut [u8], bytes: &mut [u8], words: &mut [u32], choices: &mut u64, price: &mut u32,
+    settled: &mut u32,
 ) -> u32 {
     unsafe {
         fitter_repair(
-            table.as_ptr(), table.len(), cap, list.as_mut_ptr(), list.len(), bytes.as_mut_ptr(), bytes.len(), words.as_mut_ptr(), words.len(), choices,
-            price, settled,
+            table.as_ptr(), table.len(), cap, list.as_mut_ptr(), list.len(), bytes.as_mut_ptr(), bytes.len(),
+            words.as_mut_ptr(), words.len(), choices, price, settled,
         )
     }
 }

@@ -1,4 +1,5 @@
-// Measures Judge on largest tables against the same algorithm in plain Rust, in one run: with releases alone, then with all fixed points.
+// Measures Judge on largest tables against the same algorithm in plain Rust, in one run: with releases alone, then with
+// all fixed points.
 mod fitter;
 mod sequence;
 
@@ -118,7 +119,11 @@ mod plain {
             let every = x[0] % 2 == 0;
             sets[i] = match x[0] {
                 1 => kept,
-                2 => kept & (0..n).filter(|&s| (states[3 * s + 1] as u32 + 256 * states[3 * s + 2] as u32) >> a & 1 == 1).fold(0, |k, s| k | 1 << s),
+                2 => {
+                    kept & (0..n)
+                        .filter(|&s| (states[3 * s + 1] as u32 + 256 * states[3 * s + 2] as u32) >> a & 1 == 1)
+                        .fold(0, |k, s| k | 1 << s)
+                }
                 3 => kept & !sets[a],
                 4 => sets[a] & sets[b],
                 5 => sets[a] | sets[b],
@@ -144,7 +149,8 @@ mod plain {
     }
 }
 
-// 32 states, 128 steps, 32 nodes: four steps out of each state, and fixed-point nodes where they can stand, of so many kinds from 8 on.
+// 32 states, 128 steps, 32 nodes: four steps out of each state, and fixed-point nodes where they can stand, of so many
+// kinds from 8 on.
 fn largest(random: &mut Random, kinds: u64) -> (Vec<u8>, Vec<u8>) {
     let mut t = vec![32, 128, 32, 16];
     for s in 0..32 {

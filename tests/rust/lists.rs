@@ -1,12 +1,9 @@
-// Runs every line of a file of lists through Judge, Label and Holding, and compares all buffers, with guard entries around them.
+// Runs every line of a file of lists through Judge, Label and Holding, and compares all buffers, with guard entries
+// around them. Arguments: the file, and how many lines it has behind the names.
 //
-// A line: table, list, Judge's number; Label's number and its words; Holding's number, how many states it gives, and the states. Words after the
-// count of lines say what an older file lacks. `ascending`: it is from before Holding had an order, and the states are put into reading order here.
-// `without-16`: it is from before the judge's 16, and where that comes in place of another number is worked out here. `unpriced`: its steps have no
-// price and get the price 0, on which none of the three calls depends.
+// A line: the table; the list; Judge's number; Label's number and its words; Holding's number, how many states it
+// gives, and the states. What a refused call does not give is `-`.
 mod fitter;
-mod striking;
-mod unpriced;
 mod vectors;
 
 const GUARD: u32 = 0xA5A5A5A5;
@@ -40,25 +37,10 @@ fn holding_agrees(table: &[u8], list: &[u8], number: u32, states: &[u8]) -> bool
     })
 }
 
-// The initial states, ascending, then the others, ascending.
-fn in_reading_order(table: &[u8], mut states: Vec<u8>) -> Vec<u8> {
-    states.sort_by_key(|&s| (table[4 + 3 * s as usize] == 0, s));
-    states
-}
-
-// 16 is tested after 12 and before 13. Label and Holding do not test it.
-fn with_16(table: &[u8], list: &[u8], number: u32) -> u32 {
-    let tested = number == 0 || number == 13;
-    if tested && striking::strike_packed(table, list) != list { 16 } else { number }
-}
-
-fn line_agrees(columns: &[String], ascending: bool, without_16: bool, unpriced: bool) -> bool {
+fn line_agrees(columns: &[String]) -> bool {
     let [table, list, judge, label, words, holding, count, states] = columns else { return false };
     let (table, list, states) = (vectors::bytes(table), vectors::bytes(list), vectors::bytes(states));
-    let table = if unpriced { unpriced::table(&table) } else { table };
-    let states = if ascending { in_reading_order(&table, states) } else { states };
     let (judge, label, holding) = (vectors::number(judge), vectors::number(label), vectors::number(holding));
-    let judge = if without_16 { with_16(&table, &list, judge) } else { judge };
     fitter::judge(&table, &list) == judge
         && label_agrees(&table, &list, label, &vectors::numbers(words))
         && holding_agrees(&table, &list, holding, &states)
@@ -66,6 +48,5 @@ fn line_agrees(columns: &[String], ascending: bool, without_16: bool, unpriced: 
 }
 
 fn main() {
-    let [ascending, without_16, unpriced] = vectors::flags(3, ["ascending", "without-16", "unpriced"]);
-    vectors::run("lists", |columns| line_agrees(columns, ascending, without_16, unpriced))
+    vectors::run("lists", line_agrees)
 }

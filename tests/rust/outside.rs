@@ -1,6 +1,7 @@
-// Compares all five calls of the library with a second reading of the scope's text and A1 to A5 of document 02, on drawn and damaged input, for
-// some seconds.
-// Arguments: seed (1), seconds (10). Prints how many calls agree, by kind and number; at the first difference its input, and ends with 1.
+// Compares all five calls of the library with a second implementation, written from the specification, on drawn and
+// damaged input, for some seconds.
+// Arguments: seed (1), seconds (10). Prints how many calls agree, by kind and number; at the first difference its
+// input, and ends with 1.
 mod clauses;
 mod fitter;
 mod striking;
@@ -126,7 +127,8 @@ fn round(calls: &mut Calls, random: &mut Random) -> Result<(), String> {
 
 fn report(calls: &Calls) {
     for (name, agreed) in NAMES.iter().zip(&calls.agreed) {
-        let by_number: Vec<String> = (0..NUMBERS).filter(|&k| agreed[k] > 0).map(|k| format!("{k}: {}", agreed[k])).collect();
+        let by_number: Vec<String> =
+            (0..NUMBERS).filter(|&k| agreed[k] > 0).map(|k| format!("{k}: {}", agreed[k])).collect();
         println!("outside: {name}, {} agree ({})", agreed.iter().sum::<u64>(), by_number.join(", "));
     }
 }
@@ -147,5 +149,8 @@ fn main() {
         rounds += 1;
     }
     report(&calls);
-    println!("outside: seed {seed}, {rounds} rounds, {} calls agree, 0 differ", calls.agreed.iter().flatten().sum::<u64>());
+    println!(
+        "outside: seed {seed}, {rounds} rounds, {} calls agree, 0 differ",
+        calls.agreed.iter().flatten().sum::<u64>()
+    );
 }

@@ -1,5 +1,6 @@
-// Measures Repair on drawn tables against the plain search over explicit clauses, in one run. Times are of whole calls: the plain search
-// also builds its clauses, and both strike what they find. The two must agree on every table; how fast they are decides nothing here.
+// Measures Repair on drawn tables against the plain search over explicit clauses, in one run. Times are of whole calls:
+// the plain search also builds its clauses, and both strike what they find. The two must agree on every table; how fast
+// they are decides nothing here.
 mod clauses;
 mod fitter;
 mod sequence;
@@ -111,7 +112,9 @@ fn short(rule: &mut Rule, which: u64, a: u64, b: u64) -> u64 {
 }
 
 // Several demands of these sorts at once, each over the and of those before it.
-fn demands(random: &mut Random, sorts: u64, demand: fn(&mut Rule, u64, u64, u64) -> u64, nodes: u64, props: u64) -> Rule {
+fn demands(
+    random: &mut Random, sorts: u64, demand: fn(&mut Rule, u64, u64, u64) -> u64, nodes: u64, props: u64,
+) -> Rule {
     let mut rule = Rule::leaves(props);
     let mut root = None;
     while rule.len() + 4 + root.is_some() as u64 <= nodes {
@@ -164,8 +167,8 @@ fn steps(random: &mut Random, n: u64, e: u64) -> Vec<[u8; 2]> {
     steps
 }
 
-// The steps with a price for each. It has a sequence of its own. The seed says which of three sorts the prices are of: all the same, so that the
-// fewest steps are struck; a few different ones; or any.
+// The steps with a price for each. It has a sequence of its own. The seed says which of three sorts the prices are of:
+// all the same, so that the fewest steps are struck; a few different ones; or any.
 fn priced(seed: u64, steps: Vec<[u8; 2]>) -> Vec<u8> {
     let mut random = Random::new(!seed);
     let range = [(1, 1), (1, 9), (0, 255)][seed as usize / 3 % 3];
@@ -244,7 +247,8 @@ struct Lent {
 
 fn library(lent: &mut Lent, table: &[u8], cap: u64) -> clauses::Answer {
     let (mut choices, mut price, mut settled) = (0, 0, 0);
-    let number = fitter::repair(table, cap, &mut lent.list, &mut lent.bytes, &mut lent.words, &mut choices, &mut price, &mut settled);
+    let Lent { list, bytes, words } = lent;
+    let number = fitter::repair(table, cap, list, bytes, words, &mut choices, &mut price, &mut settled);
     let written = if number == 0 { table[1] as usize } else { 0 };
     clauses::Answer { number, choices, price, settled, list: lent.list[..written].to_vec() }
 }
@@ -270,7 +274,8 @@ fn timed(mut run: impl FnMut() -> clauses::Answer) -> (f64, clauses::Answer) {
     unreachable!()
 }
 
-// Tables of one size, by their seeds. The seeds of a group were taken in their order, for the number of choices that their tables make.
+// Tables of one size, by their seeds. The seeds of a group were taken in their order, for the number of choices that
+// their tables make.
 struct Group {
     name: &'static str,
     table: fn(u64) -> Vec<u8>,
@@ -287,10 +292,12 @@ fn groups() -> Vec<Group> {
     vec![
         group("small", small, &(0..200).collect::<Vec<_>>(), u64::MAX),
         group("middle, no choices", middle, &[
-            2, 7, 8, 14, 17, 20, 21, 24, 25, 26, 29, 31, 32, 34, 35, 40, 41, 52, 57, 63, 66, 67, 72, 82, 87, 90, 91, 96, 109, 111,
+            2, 7, 8, 14, 17, 20, 21, 24, 25, 26, 29, 31, 32, 34, 35, 40, 41, 52, 57, 63, 66, 67, 72, 82, 87, 90,
+            91, 96, 109, 111,
         ], u64::MAX),
         group("middle, tens", middle, &[
-            0, 5, 11, 12, 15, 23, 30, 33, 36, 37, 38, 42, 45, 46, 47, 54, 60, 65, 68, 69, 75, 80, 84, 95, 101, 102, 105, 106, 107, 110,
+            0, 5, 11, 12, 15, 23, 30, 33, 36, 37, 38, 42, 45, 46, 47, 54, 60, 65, 68, 69, 75, 80, 84, 95, 101,
+            102, 105, 106, 107, 110,
         ], u64::MAX),
         group("middle, hundreds", middle, &[
             1, 3, 19, 27, 28, 43, 44, 51, 53, 56, 58, 73, 79, 81, 86, 103, 128, 131, 136, 140, 147, 154, 157, 161, 169,
@@ -306,10 +313,13 @@ fn groups() -> Vec<Group> {
         group("largest net, hundreds", largest, &[0, 1, 2, 3], u64::MAX),
         group("large, spent", large, &[1, 6, 7, 13, 14, 16, 19, 20, 22], 2000),
         group("all kinds, small to middle", all_to_middle, &[
-            0, 1, 3, 7, 8, 9, 10, 12, 13, 16, 17, 20, 22, 25, 27, 28, 29, 31, 36, 38, 39, 40, 42, 43, 46, 49, 53, 56, 57, 59, 64, 68, 69, 70, 71, 72,
-            75, 76, 77, 82, 83, 84, 85, 89, 90, 91, 92, 93, 94, 95, 97, 100, 101, 102, 103, 105, 106, 110, 112, 114,
+            0, 1, 3, 7, 8, 9, 10, 12, 13, 16, 17, 20, 22, 25, 27, 28, 29, 31, 36, 38, 39, 40, 42, 43, 46, 49,
+            53, 56, 57, 59, 64, 68, 69, 70, 71, 72, 75, 76, 77, 82, 83, 84, 85, 89, 90, 91, 92, 93, 94, 95, 97,
+            100, 101, 102, 103, 105, 106, 110, 112, 114,
         ], u64::MAX),
-        group("all kinds, large", all_large, &[5, 8, 9, 12, 15, 20, 21, 24, 26, 30, 36, 39, 42, 44, 45, 51, 54, 56], u64::MAX),
+        group("all kinds, large", all_large, &[
+            5, 8, 9, 12, 15, 20, 21, 24, 26, 30, 36, 39, 42, 44, 45, 51, 54, 56,
+        ], u64::MAX),
     ]
 }
 
@@ -341,7 +351,8 @@ fn measure(group: &Group, lent: &mut Lent) -> bool {
     let tables = group.seeds.len() as f64;
     println!(
         "{:36}{:>6}{:>18}{:>14}{:>12.1}{:>12.1}{:>8.2}{:>8.2}",
-        group.name, group.seeds.len(), range(&variables), range(&choices), ours / tables, theirs / tables, ours / theirs, worst
+        group.name, group.seeds.len(), range(&variables), range(&choices), ours / tables, theirs / tables,
+        ours / theirs, worst
     );
     same
 }
@@ -354,13 +365,18 @@ fn one_closure(lent: &mut Lent, tables: impl Iterator<Item = Vec<u8>>) -> f64 {
 fn main() {
     let mut lent = Lent { list: vec![0; 128], bytes: vec![0; LARGEST], words: vec![0; LARGEST] };
     println!("repair: microseconds a call; ratio of the sums; greatest ratio of one table");
-    println!("{:36}{:>6}{:>18}{:>14}{:>12}{:>12}{:>8}{:>8}", "group", "tables", "variables", "choices", "library", "plain", "ratio", "worst");
+    println!(
+        "{:36}{:>6}{:>18}{:>14}{:>12}{:>12}{:>8}{:>8}",
+        "group", "tables", "variables", "choices", "library", "plain", "ratio", "worst"
+    );
     let mut same = true;
     for group in groups() {
         same &= measure(&group, &mut lent);
     }
     let first = one_closure(&mut lent, (0..4).map(largest));
     let slowest = one_closure(&mut lent, (0..90).map(large));
-    println!("one closure (cap 0): {LARGEST} variables, {first:.0} us; the slowest of 90 large tables, {slowest:.0} us");
+    println!(
+        "one closure (cap 0): {LARGEST} variables, {first:.0} us; the slowest of 90 large tables, {slowest:.0} us"
+    );
     std::process::exit(if same { 0 } else { 1 });
 }

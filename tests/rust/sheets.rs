@@ -1,17 +1,35 @@
-// Runs every line of a file of sheets through Read, and compares the number, the length and every byte of the buffer, with guard bytes around it.
-// A line: the text, Read's number, and what the program prints, which is not looked at here. The word `unpriced` after the count of lines says that
-// the file is from before the price: a 0 is written into every line of the steps.
+// Runs every line of a file of sheets through Read, and compares the number, the length and every byte of the buffer,
+// with guard bytes around it. Arguments: the file, and how many lines it has behind the names.
+//
+// A line: the text; Read's number; and what the program prints, which `fit_sheets` looks at.
 mod fitter;
-mod packing;
-mod unpriced;
 mod vectors;
-
-use packing::packed;
 
 const GUARD: u8 = 0xA5;
 
 // The length of the longest table.
 const LONGEST: usize = 580;
+
+// The packed table of a text of sheet form, read the plain way: every line of values in its order.
+fn packed(text: &[u8]) -> Vec<u8> {
+    let text = std::str::from_utf8(text).unwrap();
+    let mut bytes = Vec::new();
+    let mut names = "";
+    for line in text.lines() {
+        if line.starts_with(|c: char| c.is_ascii_digit()) {
+            for (k, value) in line.split(' ').enumerate() {
+                let value: u32 = value.parse().unwrap();
+                bytes.push((value % 256) as u8);
+                if names == "initial label" && k == 1 {
+                    bytes.push((value / 256) as u8);
+                }
+            }
+        } else {
+            names = line;
+        }
+    }
+    bytes
+}
 
 // Read with this much room: the answer, and every byte of the buffer and of its guards.
 fn agrees(text: &[u8], room: usize, wanted: u32, bytes: &[u8]) -> bool {
@@ -37,10 +55,9 @@ fn sheet_agrees(text: &[u8]) -> bool {
         && agrees(&more, LONGEST, 1, &bytes)
 }
 
-fn line_agrees(columns: &[String], unpriced: bool) -> bool {
+fn line_agrees(columns: &[String]) -> bool {
     let [text, number, _] = columns else { return false };
     let (text, number) = (vectors::bytes(text), vectors::number(number));
-    let text = if unpriced { unpriced::sheet(&text) } else { text };
     if number == 0 {
         sheet_agrees(&text)
     } else {
@@ -49,6 +66,5 @@ fn line_agrees(columns: &[String], unpriced: bool) -> bool {
 }
 
 fn main() {
-    let [unpriced] = vectors::flags(3, ["unpriced"]);
-    vectors::run("sheets", |columns| line_agrees(columns, unpriced))
+    vectors::run("sheets", line_agrees)
 }

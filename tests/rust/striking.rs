@@ -1,4 +1,5 @@
-// A3 of document 02 on plain values: which states a list reaches, and the list without the steps out of the others. It has nothing of the library.
+// Striking on plain values (Specification, "Repairs"): which states a list reaches, and the list without the steps out
+// of the others. It has nothing of the library.
 #![allow(dead_code)]
 
 // From and to.
@@ -18,8 +19,9 @@ fn visit(steps: &[Step], list: &[u8], s: usize, seen: &mut [bool]) {
     }
 }
 
-// Which states can be got to from a kept initial state by kept steps. Zero steps count: a kept initial state is reached.
-pub fn reached(initial: &[bool], steps: &[Step], list: &[u8]) -> Vec<bool> {
+// Which states can be got to from a kept initial state by kept steps. Zero steps count: a kept initial state is
+// reached.
+fn reached(initial: &[bool], steps: &[Step], list: &[u8]) -> Vec<bool> {
     let mut seen = vec![false; initial.len()];
     for s in 0..initial.len() {
         if initial[s] && !next(steps, list, s).is_empty() {
@@ -39,6 +41,7 @@ pub fn strike(initial: &[bool], steps: &[Step], list: &[u8]) -> Vec<u8> {
 pub fn strike_packed(table: &[u8], list: &[u8]) -> Vec<u8> {
     let (n, e) = (table[0] as usize, table[1] as usize);
     let initial: Vec<bool> = (0..n).map(|s| table[4 + 3 * s] == 1).collect();
-    let steps: Vec<Step> = table[4 + 3 * n..4 + 3 * n + 3 * e].chunks(3).map(|step| (step[0] as usize, step[1] as usize)).collect();
+    let steps: Vec<Step> =
+        table[4 + 3 * n..4 + 3 * n + 3 * e].chunks(3).map(|step| (step[0] as usize, step[1] as usize)).collect();
     strike(&initial, &steps, list)
 }

@@ -1,9 +1,9 @@
-// Makes all five calls from several threads at once, each on tables and texts of its own, and compares with the answers of one thread.
+// Makes all five calls from several threads at once, each on tables and texts of its own, and compares with the answers
+// of one thread. Arguments: a file of tables, a file of sheets, and how many tables there are.
 //
-// Called with a file of tables, a file of sheets, and how many tables there are. The word `unpriced` after that says that both files are from before
-// the price: their steps get the price 0.
+// Of a line of the tables it takes the table, how many variables its net has, and the cap, and of a line of the sheets
+// the text. What they answer is not looked at here.
 mod fitter;
-mod unpriced;
 mod vectors;
 
 use std::sync::Barrier;
@@ -45,7 +45,8 @@ fn holding(c: &Case) -> (u32, Vec<u8>, u32) {
 fn repair(c: &Case) -> (u32, Vec<u8>, Vec<u8>, Vec<u32>, u64, u32, u32) {
     let (mut list, mut bytes, mut words) = (vec![7; c.list.len()], vec![7; c.variables], vec![7; c.variables]);
     let (mut choices, mut price, mut settled) = (7, 7, 7);
-    let number = fitter::repair(&c.table, c.cap, &mut list, &mut bytes, &mut words, &mut choices, &mut price, &mut settled);
+    let number =
+        fitter::repair(&c.table, c.cap, &mut list, &mut bytes, &mut words, &mut choices, &mut price, &mut settled);
     (number, list, bytes, words, choices, price, settled)
 }
 
@@ -55,13 +56,18 @@ fn read(c: &Case) -> (u32, Vec<u8>, u64) {
 }
 
 fn answers(c: &Case) -> Answers {
-    Answers { judge: fitter::judge(&c.table, &c.list), label: label(c), holding: holding(c), repair: repair(c), read: read(c) }
+    Answers {
+        judge: fitter::judge(&c.table, &c.list),
+        label: label(c),
+        holding: holding(c),
+        repair: repair(c),
+        read: read(c),
+    }
 }
 
 // A line of tables.tsv, with a line of sheets.tsv. The list keeps every step.
-fn case(line: &[String], sheet: &[String], unpriced: bool) -> Case {
+fn case(line: &[String], sheet: &[String]) -> Case {
     let (table, text) = (vectors::bytes(&line[0]), vectors::bytes(&sheet[0]));
-    let (table, text) = if unpriced { (unpriced::table(&table), unpriced::sheet(&text)) } else { (table, text) };
     let steps = table.get(1).copied().unwrap_or(0) as usize;
     let cap = line[3].parse().unwrap_or(0).min(MOST_CHOICES);
     Case { table, list: vec![1; steps], variables: line[2].parse().unwrap_or(0), cap, text }
@@ -69,9 +75,8 @@ fn case(line: &[String], sheet: &[String], unpriced: bool) -> Case {
 
 fn cases() -> Vec<Case> {
     let paths: Vec<String> = std::env::args().skip(1).collect();
-    let [unpriced] = vectors::flags(4, ["unpriced"]);
     let (tables, sheets) = (vectors::read(&paths[0]), vectors::read(&paths[1]));
-    tables.iter().zip(sheets.iter().cycle()).map(|(line, sheet)| case(line, sheet, unpriced)).collect()
+    tables.iter().zip(sheets.iter().cycle()).map(|(line, sheet)| case(line, sheet)).collect()
 }
 
 // How many cases of a thread's own differ, over all rounds.

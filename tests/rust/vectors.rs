@@ -32,16 +32,8 @@ pub fn wanted(place: usize) -> usize {
     std::env::args().nth(place).expect("how many vectors").parse().expect("a number")
 }
 
-// Which of these words the program is called with, from this place on and in any order. Any other word ends it.
-pub fn flags<const COUNT: usize>(place: usize, known: [&str; COUNT]) -> [bool; COUNT] {
-    let given: Vec<String> = std::env::args().skip(place).collect();
-    let unknown = given.iter().find(|word| !known.contains(&word.as_str()));
-    assert!(unknown.is_none(), "no such word: {unknown:?}");
-    known.map(|word| given.iter().any(|other| other == word))
-}
-
-// Runs every line of the file that the program is called with, names those that differ, and ends the program: well where there are as many
-// as the call says and all agree.
+// Runs every line of the file that the program is called with, names those that differ, and ends the program: well
+// where there are as many as the call says and all agree.
 pub fn run(name: &str, agrees: impl Fn(&[String]) -> bool) -> ! {
     let lines = read(&std::env::args().nth(1).expect("the file of vectors"));
     let wanted = wanted(2);

@@ -16,7 +16,7 @@ use Rattle.circuit.specs.Gates.{Defined, gates}
 use Rattle.circuit.specs.Clauses.{Clause, initials, demands, gates_clauses, clauses}
 use Rattle.circuit.proofs.Lists.{Each, each_one, each_append, each_map, each_concat, in_concat}
 use Rattle.ctl.proofs.Select.{in_below, in_select}
-use Rattle.ctl.specs.Levels.{below}
+use Rattle.ctl.specs.Range.{below}
 
 -- the clauses of a gate with its output
 abbrev pub clauses_of : Defined → List Clause
@@ -37,18 +37,22 @@ root_demand T s = neg (kept s) ∷ pos (value T (root_index T) s) ∷ []
 module _ (T : Table) where
   -- the initial states are those that are listed
   pub in_initials : (s : ℕ) → Memᴰ s (initials T) ↔ Initial T s
-  in_initials s = Iff.trans (in_select _ (below (length T.states)) s) (Iff.and (in_below (length T.states) s) (eqb-true _ 1, eq-eqb _ 1))
+  in_initials s = Iff.trans (in_select _ (below (length T.states)) s)
+      (Iff.and (in_below (length T.states) s) (eqb-true _ 1, eq-eqb _ 1))
 
   -- what the clauses of the gates and the demands have, each clause has
-  pub each_clause : (P : Clause → Type 0) → Each (λ d. Each P (clauses_of d)) (gates T) → Each P (demands T) → Each P (clauses T)
+  pub each_clause : (P : Clause → Type 0) → Each (λ d. Each P (clauses_of d)) (gates T) → Each P (demands T)
+      → Each P (clauses T)
   unfolding clauses
-  each_clause P gs ds = each_append P (gates_clauses T) (demands T) (each_concat P _ (each_map (Each P) clauses_of (gates T) gs)) ds
+  each_clause P gs ds =
+      each_append P (gates_clauses T) (demands T) (each_concat P _ (each_map (Each P) clauses_of (gates T) gs)) ds
 
   -- what each kind of demand has, each demand has
   pub each_demand : (P : Clause → Type 0) → ((j : ℕ) → j < length T.steps → P (step_demand T j)) → P (start_demand T)
       → ((s : ℕ) → Initial T s → P (root_demand T s)) → Each P (demands T)
   unfolding demands
-  each_demand P steps start roots = each_append P (map (step_demand T) (below (length T.steps)) ++ (start_demand T ∷ [])) _
+  each_demand P steps start roots =
+      each_append P (map (step_demand T) (below (length T.steps)) ++ (start_demand T ∷ [])) _
       (each_append P (map (step_demand T) (below (length T.steps))) _
       (each_map P (step_demand T) (below (length T.steps)) (λ j m. steps j ((in_below (length T.steps) j).0 m)))
       (each_one P (start_demand T) start))

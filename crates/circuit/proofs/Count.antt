@@ -1,6 +1,16 @@
 -- How many variables a table has: as many as the formula says, and never more than 223392.
 use Prim.Native.Nat.{ℕ, zero, suc, ◌+◌, ◌*◌, ◌≤◌, ◌<◌, suc-le-suc}
-use native.Mathlib.Nat.{zero-add, zero-mul, suc-mul, mul-zero, mul-one, mul_comm, mul-le-mul, not-suc-le-zero, le_of_suc-le-suc}
+use native.Mathlib.Nat.{
+  zero-add,
+  zero-mul,
+  suc-mul,
+  mul-zero,
+  mul-one,
+  mul_comm,
+  mul-le-mul,
+  not-suc-le-zero,
+  le_of_suc-le-suc,
+}
 use native.Mathlib.Omega.{arith}
 use mathlib.Core.Path.{◌≡◌, refl, sym, ap, ap₂, ◌∙◌}
 use mathlib.Core.Bool.{Bool, true, false, cond}
@@ -14,10 +24,28 @@ use Rattle.table.specs.declared.operator.Family.TheVariants.{Release, Until, Eve
 use Rattle.table.specs.Table.{Table, zero_step, zero_node, node_at}
 use Rattle.table.specs.Facts.{Wellformed}
 use Rattle.ctl.specs.Rule.{Operator, constant, atom, negation, conjunction, disjunction, next, fixpoint, operator_of}
-use Rattle.ctl.specs.Levels.{tabulate, below}
+use Rattle.ctl.specs.Range.{tabulate, below}
 use Rattle.ctl.proofs.Tabulate.{length_tabulate}
 use Rattle.ctl.proofs.BottomUp.{Below, children_below}
-use Rattle.circuit.specs.Variables.{Var, step, kept, node, edge, level, concat, out_of, steps_out, own_variables, own_count, node_variables, variables, variable_count, cost_of, costs, variable_formula}
+use Rattle.circuit.specs.Variables.{
+  Var,
+  step,
+  kept,
+  node,
+  edge,
+  level,
+  concat,
+  out_of,
+  steps_out,
+  own_variables,
+  own_count,
+  node_variables,
+  variables,
+  variable_count,
+  cost_of,
+  costs,
+  variable_formula,
+}
 use Rattle.circuit.proofs.Cost.{own_few}
 
 -- ---- sums
@@ -49,8 +77,10 @@ mark b = cond b 1 0
 sum_one : (n a : ℕ) → a < n → sum n (λ s. mark (eqb a s)) ≡ 1
 unfolding sum
 sum_one zero a h = absurd (not-suc-le-zero h)
-sum_one (suc n) zero h = omega (arith, sum_cong n _ (λ k. 0) (λ k l. ap mark (eqb-zero-suc k)), sum_constant n 0, mul-zero n)
-sum_one (suc n) (suc a) h = rw (eqb-suc-zero a) (zero-add _ ∙ sum_cong n _ _ (λ k l. ap mark (eqb-suc-suc a k)) ∙ sum_one n a (le_of_suc-le-suc h))
+sum_one (suc n) zero h =
+    omega (arith, sum_cong n _ (λ k. 0) (λ k l. ap mark (eqb-zero-suc k)), sum_constant n 0, mul-zero n)
+sum_one (suc n) (suc a) h = rw (eqb-suc-zero a)
+    (zero-add _ ∙ sum_cong n _ _ (λ k l. ap mark (eqb-suc-suc a k)) ∙ sum_one n a (le_of_suc-le-suc h))
 
 -- ---- the sizes of lists
 
@@ -59,19 +89,23 @@ one_each : {A : Type 0} (n : ℕ) (f : ℕ → A) → length (map f (below n)) �
 one_each n f = length-map (below n) f ∙ length_tabulate n (λ k. k)
 
 -- the sizes of the parts add up to the size of the whole
-length-concat : {A : Type 0} (n : ℕ) (f : ℕ → List A) (g : ℕ → ℕ) → length (concat (map f (tabulate n g))) ≡ sum n (λ k. length (f (g k)))
+length-concat : {A : Type 0} (n : ℕ) (f : ℕ → List A) (g : ℕ → ℕ)
+    → length (concat (map f (tabulate n g))) ≡ sum n (λ k. length (f (g k)))
 unfolding sum tabulate concat
 length-concat zero f g = refl
-length-concat (suc n) f g = length-append (f (g zero)) _ ∙ ap (λ (k : ℕ). length (f (g zero)) + k) (length-concat n f (λ k. g (suc k)))
+length-concat (suc n) f g =
+    length-append (f (g zero)) _ ∙ ap (λ (k : ℕ). length (f (g zero)) + k) (length-concat n f (λ k. g (suc k)))
 
 -- ---- the steps out of the states
 
 -- a step is out of one state
-out_size : (j : ℕ) (x : Step) (xs : List Step) (s : ℕ) → length (out_of j (x ∷ xs) s) ≡ mark (eqb x.from s) + length (out_of (suc j) xs s)
+out_size : (j : ℕ) (x : Step) (xs : List Step) (s : ℕ)
+    → length (out_of j (x ∷ xs) s) ≡ mark (eqb x.from s) + length (out_of (suc j) xs s)
 unfolding out_of
 out_size j x xs s = go (eqb x.from s)
   where
-    go : (b : Bool) → length (cond b (j ∷ out_of (suc j) xs s) (out_of (suc j) xs s)) ≡ mark b + length (out_of (suc j) xs s)
+    go : (b : Bool) → length (cond b (j ∷ out_of (suc j) xs s) (out_of (suc j) xs s))
+        ≡ mark b + length (out_of (suc j) xs s)
     go true = omega arith
     go false = omega arith
 
@@ -83,7 +117,11 @@ out_sizes n j [] inside = sum_constant n 0 ∙ mul-zero n
 out_sizes n j (x ∷ xs) inside =
     sum_cong n _ _ (λ s h. out_size j x xs s)
     ∙ sum-add n _ _
-    ∙ omega (arith, sum_one n x.from (inside zero (omega arith)), out_sizes n (suc j) xs (λ k h. inside (suc k) (suc-le-suc h)))
+    ∙ omega (
+      arith,
+      sum_one n x.from (inside zero (omega arith)),
+      out_sizes n (suc j) xs (λ k h. inside (suc k) (suc-le-suc h)),
+    )
 
 module _ (T : Table) (wf : Wellformed T) where
   -- the steps out of the states are all steps
@@ -92,7 +130,8 @@ module _ (T : Table) (wf : Wellformed T) where
 
   -- a variable for each step, and c for each state
   level_count : (edges : ℕ → Var) (c : ℕ) (rest : ℕ → List Var) → ((s : ℕ) → length (rest s) ≡ c)
-      → length (concat (map (λ s. map edges (steps_out T s) ++ rest s) (below (length T.states)))) ≡ length T.steps + length T.states * c
+      → length (concat (map (λ s. map edges (steps_out T s) ++ rest s) (below (length T.states))))
+      ≡ length T.steps + length T.states * c
   level_count edges c rest size =
       length-concat (length T.states) _ _
       ∙ sum_cong (length T.states) _ _ (λ s h.
@@ -125,7 +164,8 @@ module _ (T : Table) (wf : Wellformed T) where
       ∙ ap (λ (k : ℕ). length T.states * (length T.steps + k)) (mul_comm (length T.states) (own_count f)))
 
 -- the costs of the nodes add up
-costs-sum : (n e : ℕ) (xs : List Node) → sum (length xs) (λ i. cost_of n e (operator_of (get_or xs i zero_node))) ≡ costs n e xs
+costs-sum : (n e : ℕ) (xs : List Node)
+    → sum (length xs) (λ i. cost_of n e (operator_of (get_or xs i zero_node))) ≡ costs n e xs
 unfolding sum costs
 costs-sum n e [] = refl
 costs-sum n e (x ∷ xs) = ap (λ (k : ℕ). cost_of n e (operator_of x) + k) (costs-sum n e xs)
@@ -136,7 +176,8 @@ unfolding variables variable_formula
 count_formula T wf =
     length-append (map step (below (length T.steps)) ++ map kept (below (length T.states))) _
     ∙ ap₂ ◌+◌
-    (length-append (map step (below (length T.steps))) _ ∙ ap₂ ◌+◌ (one_each (length T.steps) step) (one_each (length T.states) kept))
+    (length-append (map step (below (length T.steps))) _
+    ∙ ap₂ ◌+◌ (one_each (length T.steps) step) (one_each (length T.states) kept))
     (length-concat (length T.nodes) _ _
     ∙ sum_cong (length T.nodes) _ _ (λ i h. node_count T wf i (operator_of (node_at T i)))
     ∙ costs-sum (length T.states) (length T.steps) T.nodes)
@@ -159,7 +200,8 @@ cost_most n e few-n few-e (fixpoint f q a b) =
 costs_most : (n e : ℕ) → n ≤ 32 → e ≤ 128 → (xs : List Node) → costs n e xs ≤ length xs * 7200
 unfolding costs
 costs_most n e few-n few-e [] = omega arith
-costs_most n e few-n few-e (x ∷ xs) = omega (arith, cost_most n e few-n few-e (operator_of x), costs_most n e few-n few-e xs)
+costs_most n e few-n few-e (x ∷ xs) =
+    omega (arith, cost_most n e few-n few-e (operator_of x), costs_most n e few-n few-e xs)
 
 -- the first node has no children, so no levels
 leaf_cost : (n e : ℕ) (o : Operator) → Below 0 o → cost_of n e o ≤ n
@@ -171,7 +213,8 @@ leaf_cost n e (disjunction a b) h = omega arith
 leaf_cost n e (next q a) h = absurd (not-suc-le-zero h)
 leaf_cost n e (fixpoint f q a b) h = absurd (not-suc-le-zero h.0)
 
-first_cost : (n e : ℕ) → n ≤ 32 → e ≤ 128 → (xs : List Node) → length xs ≤ 32 → 1 ≤ length xs → Below 0 (operator_of (get_or xs 0 zero_node))
+first_cost : (n e : ℕ) → n ≤ 32 → e ≤ 128 → (xs : List Node) → length xs ≤ 32 → 1 ≤ length xs
+    → Below 0 (operator_of (get_or xs 0 zero_node))
     → costs n e xs ≤ 223232
 unfolding costs
 first_cost n e few-n few-e [] few some leaf = absurd (not-suc-le-zero some)
@@ -182,6 +225,7 @@ first_cost n e few-n few-e (x ∷ xs) few some leaf =
 pub few_variables : (T : Table) → Wellformed T → variable_formula T ≤ 223392
 unfolding variable_formula
 few_variables T wf =
-    let first = first_cost (length T.states) (length T.steps) wf.few_states wf.few_steps T.nodes wf.few_nodes wf.some_node
+    let first = first_cost (length T.states) (length T.steps) wf.few_states wf.few_steps T.nodes wf.few_nodes
+    wf.some_node
     (children_below T wf 0 wf.some_node) in
     omega (arith, wf.few_states, wf.few_steps)

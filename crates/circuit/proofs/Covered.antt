@@ -40,24 +40,29 @@ module _ (T : Table) where
   -- K of a state is a variable
   pub kept_variable : (s : ℕ) → s < length T.states → Memᴰ (kept s) (variables T)
   unfolding gates
-  kept_variable s h = output_variable T (kept s) (outputs_up (kept_gates T) (gates T) (λ d. Memᴰ.append_left _) (one_output T kept _ s h))
+  kept_variable s h = output_variable T (kept s)
+      (outputs_up (kept_gates T) (gates T) (λ d. Memᴰ.append_left _) (one_output T kept _ s h))
 
   -- X of a node at a state is a variable
   pub value_variable : (i : ℕ) → i < length T.nodes → (s : ℕ) → s < length T.states → Memᴰ (value T i s) (variables T)
   unfolding gates
-  value_variable i h s l = output_variable T (value T i s) (outputs_up (node_gates T i (operator_of (node_at T i))) (gates T)
-      (λ d m. Memᴰ.append_right (kept_gates T) (in_over (length T.nodes) (λ i. node_gates T i (operator_of (node_at T i))) i h m))
+  value_variable i h s l =
+      output_variable T (value T i s) (outputs_up (node_gates T i (operator_of (node_at T i))) (gates T)
+      (λ d m. Memᴰ.append_right (kept_gates T)
+      (in_over (length T.nodes) (λ i. node_gates T i (operator_of (node_at T i))) i h m))
       (value_output T i (operator_of (node_at T i)) s l))
 
 module _ (T : Table) (wf : Wellformed T) where
   -- Every literal of every clause is over a variable of the table.
   pub clause_variables : (C : Clause) → Memᴰ C (clauses T) → (l : Literal Var) → Memᴰ l C → Memᴰ l.var (variables T)
   clause_variables = each_clause T (Over (λ v. Memᴰ v (variables T)))
-      (λ d m. gate_over _ d.output d.gate (output_variable T d.output (Memᴰ.map (λ d. d.output) m)) (inputs_variables T wf d m))
+      (λ d m. gate_over _ d.output d.gate (output_variable T d.output (Memᴰ.map (λ d. d.output) m))
+      (inputs_variables T wf d m))
       (each_demand T _
       (λ j h. each_more _ _ _ (step_variable T j h) (each_one _ _ (kept_variable T _ (wf.to_state j h))))
       (each_map _ _ (initials T) (λ s m. kept_variable T s ((in_initials T s).0 m).0))
-      (λ s i. each_more _ _ _ (kept_variable T s i.0) (each_one _ _ (value_variable T (root_index T) (omega (arith, wf.some_node)) s i.0))))
+      (λ s i. each_more _ _ _ (kept_variable T s i.0)
+      (each_one _ _ (value_variable T (root_index T) (omega (arith, wf.some_node)) s i.0))))
 
   -- every clause has a literal
   pub clause_literal : (C : Clause) → Memᴰ C (clauses T) → (l : Literal Var) × Memᴰ l C

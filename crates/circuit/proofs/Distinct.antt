@@ -10,12 +10,36 @@ use Rattle.table.specs.declared.operator.Family.TheVariants.{Release, Until, Eve
 use Rattle.table.specs.Table.{Table, node_at, step_at}
 use Rattle.ctl.specs.Rule.{Operator, constant, atom, negation, conjunction, disjunction, next, fixpoint, operator_of}
 use Rattle.ctl.proofs.Tabulate.{length_tabulate, get_d_tabulate}
-use Rattle.circuit.specs.Variables.{Var, step, kept, node, edge, ahead, inner, level, concat, steps_out, own_variables, level_variables, node_variables, variables, variable_count}
+use Rattle.circuit.specs.Variables.{
+  Var,
+  step,
+  kept,
+  node,
+  edge,
+  ahead,
+  inner,
+  level,
+  concat,
+  steps_out,
+  own_variables,
+  level_variables,
+  node_variables,
+  variables,
+  variable_count,
+}
 use Rattle.circuit.specs.Gates.{gates}
 use Rattle.circuit.proofs.Lists.{Each, each_more, each_one, each_append, each_map, each_over, in_out}
-use Rattle.circuit.proofs.NoRepeat.{NoRepeat, no_repeat_at, no_repeat_append, no_repeat_map, no_repeat_each, no_repeat_over, no_repeat_out}
+use Rattle.circuit.proofs.NoRepeat.{
+  NoRepeat,
+  no_repeat_at,
+  no_repeat_append,
+  no_repeat_map,
+  no_repeat_each,
+  no_repeat_over,
+  no_repeat_out,
+}
 use Rattle.circuit.proofs.Outputs.{outputs, variables_outputs}
-use Rattle.ctl.specs.Levels.{below}
+use Rattle.ctl.specs.Range.{below}
 
 -- ---- what tells variables apart
 
@@ -80,14 +104,16 @@ module _ (T : Table) where
       (each_map _ (edge i m) (steps_out T s) (λ j h. ((in_out T s j).0 h).1)) keys
 
   -- so those of all states are distinct
-  states-distinct : (i m : ℕ) (rest : ℕ → List Var) → ((s : ℕ) → NoRepeat (rest s)) → ((s : ℕ) → Each (λ v. ¬ (kind_of v ≡ 3)) (rest s))
+  states-distinct : (i m : ℕ) (rest : ℕ → List Var) → ((s : ℕ) → NoRepeat (rest s))
+      → ((s : ℕ) → Each (λ v. ¬ (kind_of v ≡ 3)) (rest s))
       → ((s : ℕ) → Each (λ v. state_of T v ≡ s) (rest s))
       → NoRepeat (concat (map (λ s. map (edge i m) (steps_out T s) ++ rest s) (below (length T.states))))
   states-distinct i m rest n kinds keys = no_repeat_over (length T.states) (state_of T) _
       (λ s. state_distinct i m s (rest s) (n s) (kinds s)) (λ s. state_key i m s (rest s) (keys s))
 
   -- what holds of N, of G and of the level of one state holds of each of them that there is
-  own_each : (f : Family) (i m s : ℕ) (P : Var → Type 0) → P (ahead i m s) → P (inner i m s) → P (level i m s) → Each P (own_variables f i m s)
+  own_each : (f : Family) (i m s : ℕ) (P : Var → Type 0) → P (ahead i m s) → P (inner i m s) → P (level i m s)
+      → Each P (own_variables f i m s)
   own_each Release i m s P p q r = each_more _ _ _ p (each_more _ _ _ q (each_one _ _ r))
   own_each Until i m s P p q r = each_more _ _ _ p (each_more _ _ _ q (each_one _ _ r))
   own_each Eventually i m s P p q r = each_more _ _ _ p (each_one _ _ r)
@@ -123,7 +149,8 @@ module _ (T : Table) where
   -- the variables of a node are those of a kind without next states, of a kind with next states, or of levels
   node_cases : (i : ℕ) (P : List Var → Type 0) → P (map (node i) (below (length T.states)))
       → P (concat (map (λ s. map (edge i 0) (steps_out T s) ++ (node i s ∷ [])) (below (length T.states))))
-      → ((f : Family) → P (map (level i 0) (below (length T.states)) ++ concat (map (λ m. level_variables T f i (suc m)) (below (length T.states)))))
+      → ((f : Family) → P (map (level i 0) (below (length T.states))
+      ++ concat (map (λ m. level_variables T f i (suc m)) (below (length T.states)))))
       → (o : Operator) → P (node_variables T i o)
   unfolding node_variables
   node_cases i P plain steps levels (constant b) = plain
@@ -138,7 +165,8 @@ module _ (T : Table) where
   node_distinct : (i : ℕ) (o : Operator) → NoRepeat (node_variables T i o)
   node_distinct i = node_cases i NoRepeat
       (no_repeat_each (length T.states) (node i) (λ s t e. cc))
-      (states-distinct i 0 (λ s. node i s ∷ []) (λ s. (Memᴰ.not-nil, tt)) (λ s. each_one _ _ (omega arith)) (λ s. each_one _ _ refl))
+      (states-distinct i 0 (λ s. node i s ∷ []) (λ s. (Memᴰ.not-nil, tt)) (λ s. each_one _ _ (omega arith))
+      (λ s. each_one _ _ refl))
       (λ f. no_repeat_append (λ v. level_of v ≡ 0) (map (level i 0) (below (length T.states))) _
       (no_repeat_each (length T.states) (level i 0) (λ s t e. cc))
       (no_repeat_over (length T.states) (λ v. pred (level_of v)) _
@@ -159,7 +187,8 @@ module _ (T : Table) where
   -- no variable stands twice
   pub variables_no_repeat : NoRepeat (variables T)
   unfolding variables
-  variables_no_repeat = no_repeat_append (λ v. kind_of v ≤ 1) (map step (below (length T.steps)) ++ map kept (below (length T.states))) _
+  variables_no_repeat =
+      no_repeat_append (λ v. kind_of v ≤ 1) (map step (below (length T.steps)) ++ map kept (below (length T.states))) _
       (no_repeat_append (λ v. kind_of v ≡ 0) (map step (below (length T.steps))) _
       (no_repeat_each (length T.steps) step (λ s t e. cc))
       (no_repeat_each (length T.states) kept (λ s t e. cc))
@@ -173,7 +202,8 @@ module _ (T : Table) where
       (each_over (length T.nodes) _ _ (λ i h v k few. omega (arith, (node_key i (operator_of (node_at T i)) v k).1)))
 
   -- The variables at two places differ.
-  pub variables_distinct : (i j : ℕ) → i < j → j < variable_count T → ¬ (get_or (variables T) i (step 0) ≡ get_or (variables T) j (step 0))
+  pub variables_distinct : (i j : ℕ) → i < j → j < variable_count T
+      → ¬ (get_or (variables T) i (step 0) ≡ get_or (variables T) j (step 0))
   variables_distinct = no_repeat_at (variables T) (step 0) variables_no_repeat
 
   -- The variables begin with the steps.
@@ -181,6 +211,7 @@ module _ (T : Table) where
   step_first j h =
       let e = length T.steps in
       ap (λ (vs : List Var). get_or vs j (step 0)) (variables_outputs T)
-      ∙ get_or-append (map step (below e)) (outputs (gates T)) (step 0) j (rw (length-map (below e) step, length_tabulate e (λ k. k)) h)
+      ∙ get_or-append (map step (below e)) (outputs (gates T)) (step 0) j
+      (rw (length-map (below e) step, length_tabulate e (λ k. k)) h)
       ∙ get_or-map step (below e) j 0
       ∙ ap step (get_d_tabulate e (λ k. k) j 0 h)

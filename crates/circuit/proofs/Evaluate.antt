@@ -11,7 +11,21 @@ use Rattle.table.specs.declared.operator.Family.TheVariants.{Release, Until, Eve
 use Rattle.table.specs.Table.{Table, state_at, node_at, step_at}
 use Rattle.table.specs.Accept.{any as any_of}
 use Rattle.table.specs.Facts.{Wellformed}
-use Rattle.ctl.specs.Rule.{Quantifier, every, some, Operator, constant, atom, negation, conjunction, disjunction, next, fixpoint, operator_of, bottom_up}
+use Rattle.ctl.specs.Rule.{
+  Quantifier,
+  every,
+  some,
+  Operator,
+  constant,
+  atom,
+  negation,
+  conjunction,
+  disjunction,
+  next,
+  fixpoint,
+  operator_of,
+  bottom_up,
+}
 use Rattle.ctl.specs.Levels.{joined}
 use Rattle.ctl.proofs.BottomUp.{Reads as ReadsChildren, bottom_up_children}
 use Rattle.circuit.specs.Variables.{Var, step, kept, node, edge, ahead, inner, level, steps_out}
@@ -89,7 +103,8 @@ module _ (T : Table) (list : List ℕ) where
   values_read (fixpoint k q a b) f g e = λ i. level_value k q (e.0 i) (e.1 i) (length T.states)
 
   -- X of a node is made of those of its children
-  pub node_value_lem : Wellformed T → (i : ℕ) → i < length T.nodes → node_value i ≡ values_of (operator_of (node_at T i)) node_value
+  pub node_value_lem : Wellformed T → (i : ℕ) → i < length T.nodes
+      → node_value i ≡ values_of (operator_of (node_at T i)) node_value
   unfolding node_value
   node_value_lem wf i h = bottom_up_children values_of (λ s. false) values_read T wf i h
 
@@ -106,5 +121,6 @@ module _ (T : Table) (list : List ℕ) where
   assignment (node i s) = node_value i s
   assignment (edge i m j) = let o = shape_at T i in edge_value o.1 (keeps j) (level_of o (pred m) (step_at T j).to)
   assignment (ahead i m s) = let o = shape_at T i in ahead_value o.1 (level_of o (pred m)) s
-  assignment (inner i m s) = let o = shape_at T i in inner_value o.0 (node_value o.2 s) (ahead_value o.1 (level_of o (pred m)) s)
+  assignment (inner i m s) = let o = shape_at T i in inner_value o.0 (node_value o.2 s)
+      (ahead_value o.1 (level_of o (pred m)) s)
   assignment (level i m s) = level_of (shape_at T i) m s

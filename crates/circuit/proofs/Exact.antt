@@ -10,7 +10,8 @@ use Rattle.circuit.specs.Variables.{variable_count, variable_formula}
 use Rattle.circuit.proofs.Count.{count_formula, few_variables}
 
 -- The formula counts the variables.
-pub count_exact : (bytes : List ℕ) → table_verdict bytes ≡ Ok tt → variable_formula (table_of bytes) ≡ variable_count (table_of bytes)
+pub count_exact : (bytes : List ℕ) → table_verdict bytes ≡ Ok tt
+    → variable_formula (table_of bytes) ≡ variable_count (table_of bytes)
 count_exact bytes ok = sym (count_formula (table_of bytes) (accepted bytes ok).table)
 
 -- There are at most 223392.

@@ -6,7 +6,7 @@ use mathlib.Core.Path.{◌≡◌, refl, sym, subst}
 use mathlib.Core.Logic.{◌⊎◌, inl, inr, ⊎_elim, ⊎_map}
 use mathlib.Core.List.Memᴰ
 use mathlib.Core.List.{List, [], ◌∷◌, ◌++◌, map, Memᴰ}
-use Rattle.ctl.specs.Levels.{tabulate, below}
+use Rattle.ctl.specs.Range.{tabulate, below}
 use Rattle.circuit.specs.Variables.{Var, concat}
 use Rattle.circuit.specs.Gates.{Defined}
 use Rattle.circuit.proofs.Lists.{Each, each_none, each_more}
@@ -28,9 +28,13 @@ follows_more K L up [] f = tt
 follows_more K L up (d ∷ ds) f = (λ l m. up l.var (f.0 l m), follows_more _ _ (λ v. ⊎_map (up v) (λ e. e)) ds f.1)
 
 -- the gates of a list, and then those of another
-pub follows_append : (K : Var → Type 0) (xs ys : List Defined) → Follows K xs → Follows (After K xs) ys → Follows K (xs ++ ys)
+pub follows_append : (K : Var → Type 0) (xs ys : List Defined) → Follows K xs → Follows (After K xs) ys
+    → Follows K (xs ++ ys)
 follows_append K [] ys f g = follows_more (After K []) K (λ v. ⊎_elim (λ k. k) (λ m. absurd (Memᴰ.not-nil m))) ys g
-follows_append K (x ∷ xs) ys f g = (f.0, follows_append _ xs ys f.1 (follows_more (After K (x ∷ xs)) _ (λ v. regroup) ys g))
+follows_append K (x ∷ xs) ys f g = (
+  f.0,
+  follows_append _ xs ys f.1 (follows_more (After K (x ∷ xs)) _ (λ v. regroup) ys g),
+)
   where
     regroup : {v : Var} → K v ⊎ Memᴰ v (x.output ∷ outputs xs) → (K v ⊎ (v ≡ x.output)) ⊎ Memᴰ v (outputs xs)
     regroup (inl k) = inl (inl k)
@@ -54,7 +58,8 @@ follows_tabulate K (suc n) F g f = follows_append K (F (g zero)) _
     regroup k (inr (suc j, h, m)) = inr (j, le_of_suc-le-suc h, m)
 
 -- gates for each number, which read none of another number
-pub follows_each : (K : Var → Type 0) (n : ℕ) (F : ℕ → List Defined) → ((k : ℕ) → k < n → Follows K (F k)) → Follows K (concat (map F (below n)))
+pub follows_each : (K : Var → Type 0) (n : ℕ) (F : ℕ → List Defined) → ((k : ℕ) → k < n → Follows K (F k))
+    → Follows K (concat (map F (below n)))
 follows_each K n F f = follows_tabulate K n F (λ k. k) (λ k h. follows_more K _ (λ v. inl) (F k) (f k h))
 
 -- gates that read none of each other

@@ -1,6 +1,6 @@
--- One gate: an assignment makes the clauses of a gate true just when it gives the output the gate's value.
--- An AND gate makes its output the AND of its inputs, and an OR gate the opposite of its output the AND of their opposites: so both are one
--- literal that is the AND of a list of literals.
+-- One gate: an assignment makes the clauses of a gate true just when it gives the output the gate's value. An AND
+-- gate makes its output the AND of its inputs, and an OR gate the opposite of its output the AND of their opposites:
+-- so both are one literal that is the AND of a list of literals.
 use mathlib.Core.Path.{◌≡◌, refl, sym, ap, ap₂, ◌∙◌}
 use mathlib.Core.Bool.{Bool, true, false, not, cond, ◌&&◌, ◌||◌, beq, not-not, true≢false, false≢true}
 use mathlib.Core.Logic.Iff
@@ -97,7 +97,8 @@ module _ {Var : Type 0} where
   pub gate_clauses_lem : (g : Var) (G : Gate Var) → gate_clauses g G ≡ and_clauses (head_of g G) (parts_of G)
   unfolding gate_clauses
   gate_clauses_lem g (all ls) = refl
-  gate_clauses_lem g (any ls) = rw (map-map (λ (l : Literal Var). opposite (neg g) ∷ l ∷ []) opposite ls, opposites_back ls)
+  gate_clauses_lem g (any ls) =
+      rw (map-map (λ (l : Literal Var). opposite (neg g) ∷ l ∷ []) opposite ls, opposites_back ls)
 
   -- the inputs of a gate
   abbrev pub inputs : Gate Var → List (Literal Var)
@@ -125,7 +126,8 @@ module _ {Var : Type 0} where
     -- what the short ones and the long one have, each of them has
     pub each_and : (P : List (Literal Var) → Type 0) → ((l : Literal Var) → Memᴰ l ls → P (opposite h ∷ l ∷ []))
         → P (h ∷ map opposite ls) → Each P (and_clauses h ls)
-    each_and P short long = each_append P (map _ ls) _ (each_map P (λ l. opposite h ∷ l ∷ []) ls short) (each_one P (h ∷ map opposite ls) long)
+    each_and P short long = each_append P (map _ ls) _ (each_map P (λ l. opposite h ∷ l ∷ []) ls short)
+        (each_one P (h ∷ map opposite ls) long)
 
   -- ---- its clauses are true when it has its value
 
@@ -133,7 +135,8 @@ module _ {Var : Type 0} where
     -- where all parts are true, none of their opposites is the true literal of the long clause
     head_true : all_of (makes α) ls ≡ true → Holds α (h ∷ map opposite ls) → makes α h ≡ true
     head_true e (k, m, t) = each_more (λ k. Makes α k → makes α h ≡ true) h _ (makes_true α h).1
-        (each_map _ opposite ls (λ l i o. absurd (true≢false (sym ((all_true (makes α) ls).0 e l i) ∙ opposite_false α l o)))) k m t
+        (each_map _ opposite ls (λ l i o. absurd
+        (true≢false (sym ((all_true (makes α) ls).0 e l i) ∙ opposite_false α l o)))) k m t
 
     -- where a part is false, it is not the true literal of its short clause
     head_false : (l : Literal Var) → makes α l ≡ false → Holds α (opposite h ∷ l ∷ []) → makes α h ≡ false
@@ -161,7 +164,8 @@ module _ {Var : Type 0} where
             (opposite f.0, Memᴰ.tail (Memᴰ.map opposite f.1), false_opposite α f.0 f.2)
 
   -- AND and OR are dual
-  any_opposites : (α : Var → Bool) (ls : List (Literal Var)) → all_of (makes α) (map opposite ls) ≡ not (any_of (makes α) ls)
+  any_opposites : (α : Var → Bool) (ls : List (Literal Var))
+      → all_of (makes α) (map opposite ls) ≡ not (any_of (makes α) ls)
   unfolding all_of any_of
   any_opposites α [] = refl
   any_opposites α (l ∷ ls) = ap₂ ◌&&◌ (makes_opposite α l) (any_opposites α ls) ∙ go (makes α l) (any_of (makes α) ls)
@@ -171,19 +175,24 @@ module _ {Var : Type 0} where
       go false y = refl
 
   -- the head is the AND of the parts when the output has the gate's value
-  value_parts : (α : Var → Bool) (g : Var) (G : Gate Var) → (makes α (head_of g G) ≡ all_of (makes α) (parts_of G)) ↔ (α g ≡ gate_value α G)
+  value_parts : (α : Var → Bool) (g : Var) (G : Gate Var)
+      → (makes α (head_of g G) ≡ all_of (makes α) (parts_of G)) ↔ (α g ≡ gate_value α G)
   unfolding gate_value
   value_parts α g (all ls) = rw (beq_sign (α g) true) Iff.rfl
   value_parts α g (any ls) = rw (beq_sign (α g) false, any_opposites α ls) (not_same _ _)
 
   -- An assignment makes the clauses of a gate true just when it gives the output the gate's value.
-  pub gate_value_lem : (α : Var → Bool) (g : Var) (G : Gate Var) → Satisfies α (gate_clauses g G) ↔ (α g ≡ gate_value α G)
-  gate_value_lem α g G = rw (gate_clauses_lem g G) (Iff.trans (clauses_value α _ _, value_clauses α _ _) (value_parts α g G))
+  pub gate_value_lem : (α : Var → Bool) (g : Var) (G : Gate Var)
+      → Satisfies α (gate_clauses g G) ↔ (α g ≡ gate_value α G)
+  gate_value_lem α g G =
+      rw (gate_clauses_lem g G) (Iff.trans (clauses_value α _ _, value_clauses α _ _) (value_parts α g G))
 
   -- ---- the value of a gate, read off its inputs
 
   -- assignments that agree on the inputs give a gate the same value
   pub value_reads : (α β : Var → Bool) (G : Gate Var) → Reads (λ v. α v ≡ β v) G → gate_value α G ≡ gate_value β G
   unfolding gate_value
-  value_reads α β (all ls) same = quantified_same every (makes α) (makes β) ls (λ l m. ap (λ (x : Bool). beq x l.sign) (same l m))
-  value_reads α β (any ls) same = quantified_same some (makes α) (makes β) ls (λ l m. ap (λ (x : Bool). beq x l.sign) (same l m))
+  value_reads α β (all ls) same =
+      quantified_same every (makes α) (makes β) ls (λ l m. ap (λ (x : Bool). beq x l.sign) (same l m))
+  value_reads α β (any ls) same =
+      quantified_same some (makes α) (makes β) ls (λ l m. ap (λ (x : Bool). beq x l.sign) (same l m))

@@ -1,4 +1,5 @@
--- What stands in the lists that the circuit is made of: mapped, joined and selected lists, and the steps out of a state.
+-- What stands in the lists that the circuit is made of: mapped, joined and selected lists, and the steps out of a
+-- state.
 use Prim.Native.Nat.{ℕ, zero, suc, ◌+◌, ◌<◌, zero-le, suc-le-suc}
 use native.Mathlib.Nat.{not-suc-le-zero, le_of_suc-le-suc}
 use native.Mathlib.Omega.{arith}
@@ -12,7 +13,7 @@ use lib.ListN.{length, get_or}
 use Rattle.table.specs.declared.record.Step.{Step}
 use Rattle.table.specs.Table.{Table, zero_step, step_at}
 use Rattle.circuit.specs.Variables.{concat, out_of, steps_out}
-use Rattle.ctl.specs.Levels.{below}
+use Rattle.ctl.specs.Range.{below}
 use Rattle.ctl.proofs.Select.{in_cond, in_below}
 
 -- ---- what each element has
@@ -42,7 +43,8 @@ module _ {A : Type 0} (P : A → Type 0) where
   pub each_concat : (xss : List (List A)) → Each (Each P) xss → Each P (concat xss)
   unfolding concat
   each_concat [] ps = each_none
-  each_concat (xs ∷ xss) ps = each_append xs (concat xss) (ps xs (Memᴰ.head refl)) (each_concat xss (λ ys m. ps ys (Memᴰ.tail m)))
+  each_concat (xs ∷ xss) ps =
+      each_append xs (concat xss) (ps xs (Memᴰ.head refl)) (each_concat xss (λ ys m. ps ys (Memᴰ.tail m)))
 
   -- a mapped list
   pub each_map : {B : Type 0} (f : B → A) (xs : List B) → Each (λ x. P (f x)) xs → Each P (map f xs)
@@ -80,12 +82,15 @@ out_place j (x ∷ xs) s k m = ⊎_elim
     (λ m'. let r = out_place (suc j) xs s k m' in (suc r.0, suc-le-suc r.1, omega (arith, r.2), r.3))
     ((in_cond (eqb x.from s) j (out_of (suc j) xs s)).0 m)
 
-place_out : (j : ℕ) (xs : List Step) (s k i : ℕ) → i < length xs → k ≡ j + i → (get_or xs i zero_step).from ≡ s → Memᴰ k (out_of j xs s)
+place_out : (j : ℕ) (xs : List Step) (s k i : ℕ) → i < length xs → k ≡ j + i → (get_or xs i zero_step).from ≡ s
+    → Memᴰ k (out_of j xs s)
 unfolding out_of
 place_out j [] s k i h e f = absurd (not-suc-le-zero h)
-place_out j (x ∷ xs) s k zero h e f = (in_cond (eqb x.from s) j (out_of (suc j) xs s)).1 (inl (eq-eqb x.from s f, omega arith))
+place_out j (x ∷ xs) s k zero h e f = (in_cond (eqb x.from s) j (out_of (suc j) xs s)).1
+    (inl (eq-eqb x.from s f, omega arith))
 place_out j (x ∷ xs) s k (suc i) h e f =
-    (in_cond (eqb x.from s) j (out_of (suc j) xs s)).1 (inr (place_out (suc j) xs s k i (le_of_suc-le-suc h) (omega arith) f))
+    (in_cond (eqb x.from s) j (out_of (suc j) xs s)).1
+    (inr (place_out (suc j) xs s k i (le_of_suc-le-suc h) (omega arith) f))
 
 -- the steps out of s are those that leave it
 pub in_out : (T : Table) (s j : ℕ) → Memᴰ j (steps_out T s) ↔ ((j < length T.steps) × ((step_at T j).from ≡ s))

@@ -1,5 +1,6 @@
--- The models of a table's clauses are its repairs: an assignment that says of each step whether the list keeps it can be completed in just one
--- way to make the clauses of the gates true, and then it makes the demands true just when the list is a repair.
+-- The models of a table's clauses are its repairs: an assignment that says of each step whether the list keeps it can
+-- be completed in just one way to make the clauses of the gates true, and then it makes the demands true just when
+-- the list is a repair.
 use Prim.Native.Nat.{ℕ, ◌<◌}
 use native.Mathlib.Omega.{arith}
 use mathlib.Core.Path.{◌≡◌, refl, sym, subst, ◌∙◌}
@@ -54,7 +55,8 @@ unfolding assignment
 evaluation_agrees T list j h = refl
 
 -- Each list has an assignment that agrees with it and makes the clauses of the gates true,
-pub gates_exist : (T : Table) → Wellformed T → (list : List ℕ) → (α : Var → Bool) × Agrees T α list × Satisfies α (gates_clauses T)
+pub gates_exist : (T : Table) → Wellformed T → (list : List ℕ)
+    → (α : Var → Bool) × Agrees T α list × Satisfies α (gates_clauses T)
 gates_exist T wf list = (assignment T list, evaluation_agrees T list, evaluation_gates T wf list)
 
 -- and just one, on the variables of the table.
@@ -72,7 +74,11 @@ gates_unique T wf list α β agrees-α agrees-β sat-α sat-β = variable_induct
 -- assignments that are equal on the variables of the table make the same clauses true
 clauses_same : (T : Table) → Wellformed T → (α β : Var → Bool) → ((v : Var) → Memᴰ v (variables T) → α v ≡ β v)
     → Satisfies α (clauses T) → Satisfies β (clauses T)
-clauses_same T wf α β same sat C m = let r = sat C m in (r.0, r.1, sym (same r.0.var (clause_variables T wf C m r.0 r.1)) ∙ r.2)
+clauses_same T wf α β same sat C m = let r = sat C m in (
+  r.0,
+  r.1,
+  sym (same r.0.var (clause_variables T wf C m r.0 r.1)) ∙ r.2,
+)
 
 -- (not u, v) is true: v is true where u is
 implies : (α : Var → Bool) (u v : Var) → Holds α (neg u ∷ pos v ∷ []) ↔ (α u ≡ true → α v ≡ true)
@@ -98,8 +104,10 @@ module _ (T : Table) (wf : Wellformed T) (list : List ℕ) where
   -- the end of a kept step is kept
   step_demand_lem : (j : ℕ) → Holds α (step_demand T j) ↔ (get_or list j 0 ≡ 1 → Kept T list (step_at T j).to)
   unfolding assignment
-  step_demand_lem j = Iff.trans (implies α (step j) (kept (step_at T j).to))
-      (λ f e. (kept_true (step_at T j).to).0 (f (eq-eqb _ 1 e)), λ f e. (kept_true (step_at T j).to).1 (f (eqb-true _ 1 e)))
+  step_demand_lem j = Iff.trans (implies α (step j) (kept (step_at T j).to)) (
+    λ f e. (kept_true (step_at T j).to).0 (f (eq-eqb _ 1 e)),
+    λ f e. (kept_true (step_at T j).to).1 (f (eqb-true _ 1 e)),
+  )
 
   -- an initial state is kept
   start_demand_lem : Holds α (start_demand T) ↔ ((s : ℕ) × Initial T s × Kept T list s)
@@ -110,7 +118,8 @@ module _ (T : Table) (wf : Wellformed T) (list : List ℕ) where
   )
 
   -- the root holds at a state if it is kept
-  root_demand_lem : Total T list → (s : ℕ) → Holds α (root_demand T s) ↔ (Kept T list s → NodeHolds T list (root_index T) s)
+  root_demand_lem : Total T list → (s : ℕ)
+      → Holds α (root_demand T s) ↔ (Kept T list s → NodeHolds T list (root_index T) s)
   root_demand_lem total s = Iff.trans (implies α (kept s) (value T (root_index T) s)) (
     λ f k. (root k).0 (f ((kept_true s).1 k)),
     λ f e. let k = (kept_true s).0 e in (root k).1 (f k),
@@ -120,7 +129,10 @@ module _ (T : Table) (wf : Wellformed T) (list : List ℕ) where
       inside = omega (arith, wf.some_node)
 
       root : Kept T list s → (α (value T (root_index T) s) ≡ true) ↔ NodeHolds T list (root_index T) s
-      root k = rw (value_right T list wf (root_index T) inside s, value_marked T wf list total (root_index T) inside s k.0 k.1)
+      root k = rw (
+        value_right T list wf (root_index T) inside s,
+        value_marked T wf list total (root_index T) inside s k.0 k.1,
+      )
           (label_mean T wf list total (root_index T) inside s k.0 k.1)
 
   -- where the evaluation makes the clauses true, the list is a repair
@@ -141,20 +153,24 @@ module _ (T : Table) (wf : Wellformed T) (list : List ℕ) where
       (λ d m C i. evaluation_gates T wf list C (gate_in T d m C i))
       (each_demand T (Holds α)
       (λ j h. (step_demand_lem j).1 (λ e.
-      r.total (step_at T j).from (step_at T j).to (record { step = j; listed = h; kept = e; leaves = refl; enters = refl })))
+      r.total (step_at T j).from (step_at T j).to
+      (record { step = j; listed = h; kept = e; leaves = refl; enters = refl })))
       (start_demand_lem.1 r.starts)
       (λ s i. (root_demand_lem r.total s).1 (r.rule s i)))
 
 -- ---- models and repairs
 
 -- Where an assignment makes the clauses of a table true, the list that it agrees with is a repair.
-pub model_is_repair : (T : Table) → Wellformed T → (list : List ℕ) → IsList T list → (α : Var → Bool) → Agrees T α list → Satisfies α (clauses T)
+pub model_is_repair : (T : Table) → Wellformed T → (list : List ℕ) → IsList T list → (α : Var → Bool) → Agrees T α list
+    → Satisfies α (clauses T)
     → Repair T list
 model_is_repair T wf list form α agrees sat = evaluation_repair T wf list form (clauses_same T wf α (assignment T list)
-    (gates_unique T wf list α (assignment T list) agrees (evaluation_agrees T list) (λ C m. sat C (gates_in T C m)) (evaluation_gates T wf list)) sat)
+    (gates_unique T wf list α (assignment T list) agrees (evaluation_agrees T list) (λ C m. sat C (gates_in T C m))
+    (evaluation_gates T wf list)) sat)
 
 -- Each repair has an assignment that agrees with it and makes the clauses of the table true.
-pub repair_is_model : (T : Table) → Wellformed T → (list : List ℕ) → Repair T list → (α : Var → Bool) × Agrees T α list × Satisfies α (clauses T)
+pub repair_is_model : (T : Table) → Wellformed T → (list : List ℕ) → Repair T list
+    → (α : Var → Bool) × Agrees T α list × Satisfies α (clauses T)
 repair_is_model T wf list r = (assignment T list, evaluation_agrees T list, repair_evaluation T wf list r)
 
 pub models_are_the_repairs : ModelsAreTheRepairs

@@ -10,7 +10,7 @@ use mathlib.Core.List.{List, [], ◌∷◌, ◌++◌, map, Memᴰ}
 use lib.Dec.{eqb}
 use lib.ListN.{length, get_or}
 use Rattle.table.specs.declared.record.Step.{Step}
-use Rattle.ctl.specs.Levels.{tabulate, below}
+use Rattle.ctl.specs.Range.{tabulate, below}
 use Rattle.ctl.proofs.Tabulate.{tabulate_member}
 use Rattle.circuit.specs.Variables.{concat, out_of}
 use Rattle.circuit.proofs.Lists.{Each, each_map, each_concat, out_place}
@@ -28,14 +28,17 @@ module _ {A : Type 0} where
   member_at (x ∷ xs) d (suc j) h = Memᴰ.tail (member_at xs d j (le_of_suc-le-suc h))
 
   -- the elements at two places differ
-  pub no_repeat_at : (xs : List A) (d : A) → NoRepeat xs → (i j : ℕ) → i < j → j < length xs → ¬ (get_or xs i d ≡ get_or xs j d)
+  pub no_repeat_at : (xs : List A) (d : A) → NoRepeat xs → (i j : ℕ) → i < j → j < length xs
+      → ¬ (get_or xs i d ≡ get_or xs j d)
   no_repeat_at [] d n i j l h e = not-suc-le-zero h
   no_repeat_at (x ∷ xs) d n i zero l h e = not-suc-le-zero l
   no_repeat_at (x ∷ xs) d n zero (suc j) l h e = n.0 (Memᴰ.cast e (member_at xs d j (le_of_suc-le-suc h)))
-  no_repeat_at (x ∷ xs) d n (suc i) (suc j) l h e = no_repeat_at xs d n.1 i j (le_of_suc-le-suc l) (le_of_suc-le-suc h) e
+  no_repeat_at (x ∷ xs) d n (suc i) (suc j) l h e =
+      no_repeat_at xs d n.1 i j (le_of_suc-le-suc l) (le_of_suc-le-suc h) e
 
   -- two lists, told apart by P
-  pub no_repeat_append : (P : A → Type 0) (xs ys : List A) → NoRepeat xs → NoRepeat ys → Each P xs → Each (λ y. ¬ P y) ys → NoRepeat (xs ++ ys)
+  pub no_repeat_append : (P : A → Type 0) (xs ys : List A) → NoRepeat xs → NoRepeat ys → Each P xs
+      → Each (λ y. ¬ P y) ys → NoRepeat (xs ++ ys)
   no_repeat_append P [] ys n k ps qs = k
   no_repeat_append P (x ∷ xs) ys n k ps qs = (
     λ m. ⊎_elim n.0 (λ i. qs x i (ps x (Memᴰ.head refl))) (Memᴰ.append_cases xs m),
@@ -43,12 +46,16 @@ module _ {A : Type 0} where
   )
 
   -- a list mapped by an injective function
-  pub no_repeat_map : {B : Type 0} (f : B → A) → ((x y : B) → f x ≡ f y → x ≡ y) → (xs : List B) → NoRepeat xs → NoRepeat (map f xs)
+  pub no_repeat_map : {B : Type 0} (f : B → A) → ((x y : B) → f x ≡ f y → x ≡ y) → (xs : List B) → NoRepeat xs
+      → NoRepeat (map f xs)
   no_repeat_map f injective [] n = tt
-  no_repeat_map f injective (x ∷ xs) n =
-      (λ m. let r = Memᴰ.of_map f xs m in n.0 (Memᴰ.cast (injective x r.0 (sym r.2)) r.1), no_repeat_map f injective xs n.1)
+  no_repeat_map f injective (x ∷ xs) n = (
+    λ m. let r = Memᴰ.of_map f xs m in n.0 (Memᴰ.cast (injective x r.0 (sym r.2)) r.1),
+    no_repeat_map f injective xs n.1,
+  )
 
-  no_repeat_concat : (key : A → ℕ) (f : ℕ → List A) → ((k : ℕ) → NoRepeat (f k)) → ((k : ℕ) → Each (λ x. key x ≡ k) (f k))
+  no_repeat_concat : (key : A → ℕ) (f : ℕ → List A) → ((k : ℕ) → NoRepeat (f k))
+      → ((k : ℕ) → Each (λ x. key x ≡ k) (f k))
       → (ks : List ℕ) → NoRepeat ks → NoRepeat (concat (map f ks))
   unfolding concat
   no_repeat_concat key f ns keys [] n = tt
@@ -71,7 +78,8 @@ pub no_repeat_each : {A : Type 0} (n : ℕ) (f : ℕ → A) → ((i j : ℕ) →
 no_repeat_each n f injective = no_repeat_map f injective (below n) (no_repeat_tabulate n (λ k. k) (λ i j e. e))
 
 -- a list for each number, told apart by the number, which is each element's key
-pub no_repeat_over : {A : Type 0} (n : ℕ) (key : A → ℕ) (f : ℕ → List A) → ((k : ℕ) → NoRepeat (f k)) → ((k : ℕ) → Each (λ x. key x ≡ k) (f k))
+pub no_repeat_over : {A : Type 0} (n : ℕ) (key : A → ℕ) (f : ℕ → List A) → ((k : ℕ) → NoRepeat (f k))
+    → ((k : ℕ) → Each (λ x. key x ≡ k) (f k))
     → NoRepeat (concat (map f (below n)))
 no_repeat_over n key f ns keys = no_repeat_concat key f ns keys (below n) (no_repeat_tabulate n (λ k. k) (λ i j e. e))
 

@@ -18,13 +18,15 @@ join every x y = x && y
 join some x y = x || y
 
 -- one element more
-pub quantified_more : {A : Type 0} (q : Quantifier) (p : A → Bool) (x : A) (xs : List A) → quantified q p (x ∷ xs) ≡ join q (p x) (quantified q p xs)
+pub quantified_more : {A : Type 0} (q : Quantifier) (p : A → Bool) (x : A) (xs : List A)
+    → quantified q p (x ∷ xs) ≡ join q (p x) (quantified q p xs)
 unfolding all_of any_of
 quantified_more every p x xs = refl
 quantified_more some p x xs = refl
 
 -- of an empty list, all tests say the same
-pub quantified_none : {A B : Type 0} (q : Quantifier) (f : A → Bool) (g : B → Bool) → quantified q f [] ≡ quantified q g []
+pub quantified_none : {A B : Type 0} (q : Quantifier) (f : A → Bool) (g : B → Bool)
+    → quantified q f [] ≡ quantified q g []
 unfolding all_of any_of
 quantified_none every f g = refl
 quantified_none some f g = refl

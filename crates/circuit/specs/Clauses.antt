@@ -1,12 +1,11 @@
--- The clauses of a table: those of its gates, in their order, and then the demands. 01, "The net", last item of the list.
+-- The clauses of a table: those of its gates, in their order, and then the demands. Specification, "Net".
 use Rattle.std.specs.Prelude.{ℕ, List, [], ◌∷◌, ◌++◌, map, length}
-use Rattle.table.specs.Table.{Table, step_at}
-use Rattle.table.specs.Accept.{initial_at}
+use Rattle.table.specs.Table.{Table, step_at, initial_at}
 use Rattle.ctl.specs.Rule.{root_index}
 use Rattle.circuit.specs.Logic.{Literal, pos, neg, gate_clauses}
 use Rattle.circuit.specs.Variables.{Var, step, kept, concat, value}
 use Rattle.circuit.specs.Gates.{gates}
-use Rattle.ctl.specs.Levels.{below, select}
+use Rattle.ctl.specs.Range.{below, select}
 
 abbrev pub Clause : Type 0
 Clause = List (Literal Var)

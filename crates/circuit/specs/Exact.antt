@@ -1,4 +1,5 @@
--- What the circuit of a table promises: its models are the repairs, and its variables can be told apart by their numbers.
+-- What the circuit of a table promises: its models are the repairs, and its variables can be told apart by their
+-- numbers.
 use Rattle.std.specs.Prelude.{ℕ, ◌≤◌, ◌<◌, ◌≡◌, Bool, List, length, get_or, eqb}
 use mathlib.Core.List.{Memᴰ}
 use Rattle.table.specs.Table.{Table}

@@ -1,4 +1,4 @@
--- Literals, clauses and gates over any variables; the clauses of a gate. 01, "The net", first paragraph.
+-- Literals, clauses and gates over any variables; the clauses of a gate. Specification, "Net".
 use Rattle.std.specs.Prelude.{Bool, true, false, not, ◌≡◌}
 use mathlib.Core.List.{List, [], ◌∷◌, ◌++◌, map, Memᴰ}
 
@@ -21,8 +21,8 @@ module _ {Var : Type 0} where
 pub data Gate (Var : Type 0) : Type 0 where
   all any : List (Literal Var) → Gate Var
 
--- Of an AND gate g of l1 .. lk: (not g, li) for each i, and (g, not l1, .., not lk). An OR gate is its dual: (g, not li) for each i,
--- and (not g, l1, .., lk). With no inputs the long clause alone stands.
+-- Of an AND gate g of l1 .. lk: (not g, li) for each i, and (g, not l1, .., not lk). An OR gate is its dual: (g, not
+-- li) for each i, and (not g, l1, .., lk). With no inputs the long clause alone stands.
 module _ {Var : Type 0} where
   unfoldable pub gate_clauses : Var → Gate Var → List (List (Literal Var))
   gate_clauses g (all ls) = map (λ l. neg g ∷ l ∷ []) ls ++ ((pos g ∷ map opposite ls) ∷ [])

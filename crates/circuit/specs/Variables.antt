@@ -1,15 +1,17 @@
--- The variables of a table's circuit, in order: the steps, K by state, then node by node, level by level, state by state; for one state its
--- step gates, then N, G where there is one, and the level or X.
-use Rattle.std.specs.Prelude.{ℕ, suc, ◌+◌, ◌*◌, cond, List, [], ◌∷◌, ◌++◌, map, length, eqb}
+-- The variables of a table's circuit, in order: the steps, K by state, then node by node, level by level, state by
+-- state; for one state its step gates, then N, G where there is one, and the level or X.
+use Rattle.std.specs.Prelude.{ℕ, suc, Bool, ◌+◌, ◌*◌, cond, List, [], ◌∷◌, ◌++◌, map, length, eqb}
 use Rattle.table.specs.declared.record.Node.{Node}
 use Rattle.table.specs.declared.record.Step.{Step}
 use Rattle.table.specs.declared.operator.Family.{Family}
 use Rattle.table.specs.declared.operator.Family.TheVariants.{Release, Until, Eventually, Always}
 use Rattle.table.specs.Table.{Table, node_at}
 use Rattle.ctl.specs.Rule.{Operator, constant, atom, negation, conjunction, disjunction, next, fixpoint, operator_of}
-use Rattle.ctl.specs.Levels.{below}
+use Rattle.ctl.specs.Range.{below}
+use Rattle.circuit.specs.Logic.{Literal}
 
--- Constructors tell variables apart, so no numbering has to be shown one to one; a variable's number is its place in `variables`.
+-- Constructors tell variables apart, so no numbering has to be shown one to one; a variable's number is its place in
+-- `variables`.
 pub data Var : Type 0 where
   -- E: step j is kept
   step : ℕ → Var
@@ -23,6 +25,10 @@ pub data Var : Type 0 where
   ahead : ℕ → ℕ → ℕ → Var
   inner : ℕ → ℕ → ℕ → Var
   level : ℕ → ℕ → ℕ → Var
+
+-- the literal of a variable with this sign
+abbrev pub literal : Bool → Var → Literal Var
+literal sign v = record { sign = sign; var = v }
 
 unfoldable pub concat : {A : Type 0} → List (List A) → List A
 concat [] = []
@@ -66,7 +72,8 @@ module _ (T : Table) where
 
   -- the variables of one level above 0
   abbrev pub level_variables : Family → ℕ → ℕ → List Var
-  level_variables f i m = concat (map (λ s. map (edge i m) (steps_out T s) ++ own_variables f i m s) (below (length T.states)))
+  level_variables f i m =
+      concat (map (λ s. map (edge i m) (steps_out T s) ++ own_variables f i m s) (below (length T.states)))
 
   unfoldable pub node_variables : ℕ → Operator → List Var
   node_variables i (constant b) = map (node i) (below (length T.states))
@@ -74,7 +81,8 @@ module _ (T : Table) where
   node_variables i (negation a) = map (node i) (below (length T.states))
   node_variables i (conjunction a b) = map (node i) (below (length T.states))
   node_variables i (disjunction a b) = map (node i) (below (length T.states))
-  node_variables i (next q a) = concat (map (λ s. map (edge i 0) (steps_out T s) ++ (node i s ∷ [])) (below (length T.states)))
+  node_variables i (next q a) =
+      concat (map (λ s. map (edge i 0) (steps_out T s) ++ (node i s ∷ [])) (below (length T.states)))
   node_variables i (fixpoint f q a b) =
       map (level i 0) (below (length T.states))
       ++ concat (map (λ m. level_variables f i (suc m)) (below (length T.states)))
@@ -85,11 +93,12 @@ module _ (T : Table) where
       ++ map kept (below (length T.states))
       ++ concat (map (λ i. node_variables i (operator_of (node_at T i))) (below (length T.nodes)))
 
-  -- 01's V
+  -- V: how many variables there are
   abbrev pub variable_count : ℕ
   variable_count = length variables
 
--- V, as 01 and A1 write it: e + n and, for each node, n for kinds 0 to 5, e + n for 6 and 7, n + n (e + 3 n) for 8 to 11, n + n (e + 2 n) for 12 to 15
+-- V by its formula (Specification, "Net"): e + n and, for each node, n for kinds 0 to 5, e + n for 6 and 7, n + n (e
+-- + 3 n) for 8 to 11, n + n (e + 2 n) for 12 to 15
 abbrev pub cost_of : ℕ → ℕ → Operator → ℕ
 cost_of n e (constant b) = n
 cost_of n e (atom p) = n

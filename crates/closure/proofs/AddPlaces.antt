@@ -1,5 +1,5 @@
--- A forced row added where it belongs advances the memory: to a node, to the steps out of a state, to K. Where nothing came of it, the row there
--- knows it already, and knows nothing both ways.
+-- A forced row added where it belongs advances the memory: to a node, to the steps out of a state, to K. Where
+-- nothing came of it, the row there knows it already, and knows nothing both ways.
 use Prim.Native.Nat.{ℕ, ◌+◌, ◌*◌, ◌<◌}
 use native.Mathlib.Nat.{zero-add}
 use native.Mathlib.Omega.{arith}
@@ -17,21 +17,21 @@ use Rattle.rows.specs.declared.row.Row.{Row}
 use Rattle.rows.specs.Words.{SmallRow, step_place}
 use Rattle.closure.specs.Knowledge.{knowledge, Sized}
 use Rattle.propagate.specs.Memory.{Memory, node_place, kept_place, add_row, add_step}
-use Rattle.closure.specs.Inside.{RowIn, StepsIn, Inside}
+use Rattle.closure.specs.KnowledgeIn.{RowIn, StepsIn, KnowledgeIn}
 use Rattle.closure.specs.Advance.{ForcedBy}
-use Rattle.closure.proofs.Forced.{Closed, forced_closed}
+use Rattle.closure.proofs.Forced.{ClauseClosed, forced_closed}
 use Rattle.closure.proofs.ClashSound.{clash_in, clash_steps_in}
 use Rattle.closure.proofs.Advances.{Advances, advance_so}
 use Rattle.closure.proofs.AddAdvance.{Quiet, union_small, rows_small, add_row_lem}
-use Rattle.propagate.proofs.JoinedRows.{places_apart}
+use Rattle.propagate.proofs.AddedRow.{places_apart}
 use Rattle.closure.proofs.AddSound.{union_in, steps_union_in, Suits, rows_keep}
 
 -- what is so of the closure of any literals that the memory is inside of
 abbrev pub Given : Table → Memory → ((Literal Var → Type 0) → Type 0) → Type 0
-Given T M X = (P : List (Literal Var)) → Inside T (ForcedBy T P) (knowledge T M) → X (ForcedBy T P)
+Given T M X = (P : List (Literal Var)) → KnowledgeIn T (ForcedBy T P) (knowledge T M) → X (ForcedBy T P)
 
 -- the forced literals are closed under the clauses
-pub closed : (T : Table) (P : List (Literal Var)) (C : Clause) → Memᴰ C (clauses T) → Closed (ForcedBy T P) C
+pub closed : (T : Table) (P : List (Literal Var)) (C : Clause) → Memᴰ C (clauses T) → ClauseClosed (ForcedBy T P) C
 closed T P = forced_closed
 
 module _ (T : Table) (wf : Wellformed T) (M : Memory) (sized : Sized T M) (x : Row) (small : SmallRow x) where
@@ -43,14 +43,16 @@ module _ (T : Table) (wf : Wellformed T) (M : Memory) (sized : Sized T M) (x : R
         (inl (inr (omega (arith, wf.few_nodes))))
         (λ k l. node (ForcedBy T P) (given P inside) k (ℕ_discrete k i))
         inside;
-    clash = λ c P inside. clash_in T wf (ForcedBy T P) (closed T P) (value T i) _ (union_small _ x (rows_small T M sized (node_place i)) small)
+    clash = λ c P inside. clash_in T wf (ForcedBy T P) (closed T P) (value T i) _
+        (union_small _ x (rows_small T M sized (node_place i)) small)
         (union_in T (ForcedBy T P) (value T i) _ x (inside.nodes i h) (given P inside)) c;
   }))
     where
       place : node_place i + 1 < 130
       place = omega (arith, wf.few_nodes)
 
-      node : (S : Literal Var → Type 0) → RowIn T S (value T i) x → (k : ℕ) → Dec (k ≡ i) → Suits (RowIn T S (value T k)) x (node_place i) (node_place k)
+      node : (S : Literal Var → Type 0) → RowIn T S (value T i) x → (k : ℕ) → Dec (k ≡ i)
+          → Suits (RowIn T S (value T k)) x (node_place i) (node_place k)
       node S added k (yes e) = inr (ap node_place e, subst (λ (j : ℕ). RowIn T S (value T j) x) (sym e) added)
       node S added k (no d) = inl (places_apart 64 k i d)
 
@@ -62,14 +64,16 @@ module _ (T : Table) (wf : Wellformed T) (M : Memory) (sized : Sized T M) (x : R
         (inl (inr (omega (arith, wf.few_states))))
         (λ k l. inl (inr (omega (arith, wf.few_states))))
         inside;
-    clash = λ c P inside. clash_steps_in T wf (ForcedBy T P) (closed T P) s _ (union_small _ x (rows_small T M sized (step_place s)) small)
+    clash = λ c P inside. clash_steps_in T wf (ForcedBy T P) (closed T P) s _
+        (union_small _ x (rows_small T M sized (step_place s)) small)
         (steps_union_in T (ForcedBy T P) s _ x (inside.steps s h) (given P inside)) c;
   }))
     where
       place : step_place s + 1 < 130
       place = omega (arith, wf.few_states)
 
-      out : (S : Literal Var → Type 0) → StepsIn T S s x → (k : ℕ) → Dec (k ≡ s) → Suits (StepsIn T S k) x (step_place s) (step_place k)
+      out : (S : Literal Var → Type 0) → StepsIn T S s x → (k : ℕ) → Dec (k ≡ s)
+          → Suits (StepsIn T S k) x (step_place s) (step_place k)
       out S added k (yes e) = inr (ap step_place e, subst (λ (j : ℕ). StepsIn T S j x) (sym e) added)
       out S added k (no d) = inl (rw (zero-add (2 * k), zero-add (2 * s)) at (places_apart 0 k s d))
 
@@ -80,6 +84,7 @@ module _ (T : Table) (wf : Wellformed T) (M : Memory) (sized : Sized T M) (x : R
         (inr (refl, given P inside))
         (λ i l. inl (inl (omega (arith, wf.few_nodes))))
         inside;
-    clash = λ c P inside. clash_in T wf (ForcedBy T P) (closed T P) kept _ (union_small _ x (rows_small T M sized kept_place) small)
+    clash = λ c P inside. clash_in T wf (ForcedBy T P) (closed T P) kept _
+        (union_small _ x (rows_small T M sized kept_place) small)
         (union_in T (ForcedBy T P) kept _ x inside.kept (given P inside)) c;
   }))

@@ -1,4 +1,5 @@
--- Rules one after the other: an advance and then another is an advance, and where neither added a bit both speak of the same rows.
+-- Rules one after the other: an advance and then another is an advance, and where neither added a bit both speak of
+-- the same rows.
 use Prim.Native.Nat.{◌<◌}
 use native.Mathlib.Nat.{lt_trans}
 use mathlib.Core.Path.{◌≡◌, refl, sym, subst, ◌∙◌}
@@ -14,7 +15,7 @@ use Rattle.rows.specs.declared.row.Report.{Report}
 use Rattle.rows.specs.Words.{both_reports, quiet}
 use Rattle.closure.specs.Knowledge.{Knowledge, knowledge, Sized, total}
 use Rattle.propagate.specs.Memory.{Memory, Stepped, failing}
-use Rattle.closure.specs.Inside.{Inside, Clash}
+use Rattle.closure.specs.KnowledgeIn.{KnowledgeIn, Clash}
 use Rattle.closure.specs.Advance.{ForcedBy, Advance}
 
 -- a step of the memory advances
@@ -27,7 +28,8 @@ Both P Q K = P K × Q K
 
 module _ (T : Table) where
   -- another thing is so where it is quiet
-  advance_when : {P Q : Knowledge → Type 0} {M N : Memory} {r : Report} → (r.changed ≡ false → r.fails ≡ false → Q (knowledge T M))
+  advance_when : {P Q : Knowledge → Type 0} {M N : Memory} {r : Report}
+      → (r.changed ≡ false → r.fails ≡ false → Q (knowledge T M))
       → Advance T P M N r → Advance T Q M N r
   advance_when q a = record {
     sized = a.sized;
@@ -49,7 +51,8 @@ module _ (T : Table) where
   advance_so f a = advance_when (λ c e. f (a.quiet c e)) a
 
   -- where it fails nothing has to be so
-  pub advance_failed : {P Q : Knowledge → Type 0} {M N : Memory} {r : Report} → r.fails ≡ true → Advance T P M N r → Advance T Q M N r
+  pub advance_failed : {P Q : Knowledge → Type 0} {M N : Memory} {r : Report} → r.fails ≡ true → Advance T P M N r
+      → Advance T Q M N r
   advance_failed f a = advance_when (λ c e. absurd (true≢false (sym f ∙ e))) a
 
   pub advance_then : {P Q : Knowledge → Type 0} {M N O : Memory} {r s : Report} → Advance T P M N r → Advance T Q N O s
@@ -77,7 +80,7 @@ module _ (T : Table) where
 
   -- nothing is done, and it fails only where the set has a variable both ways
   pub advance_failing : (f : Bool) (M : Memory) → Sized T M
-      → (f ≡ true → (P : List (Literal Var)) → Inside T (ForcedBy T P) (knowledge T M) → Clash T (ForcedBy T P))
+      → (f ≡ true → (P : List (Literal Var)) → KnowledgeIn T (ForcedBy T P) (knowledge T M) → Clash T (ForcedBy T P))
       → Advances T (λ K. f ≡ false) M (failing f M)
   advance_failing f M sized clash = record {
     sized = sized;
@@ -100,6 +103,7 @@ pub quiet_parts : (r : Report) → quiet r ≡ true → (r.changed ≡ false) ×
 quiet_parts r e = or_neither r.changed r.fails (not-true _ e)
 
 -- what is then so of the rows as they were is so of them as they are
-pub quiet_still : {T : Table} {Q : Knowledge → Type 0} {M N : Memory} {r : Report} → Advance T Q M N r → quiet r ≡ true → Q (knowledge T N)
+pub quiet_still : {T : Table} {Q : Knowledge → Type 0} {M N : Memory} {r : Report} → Advance T Q M N r → quiet r ≡ true
+    → Q (knowledge T N)
 quiet_still {T} {Q} {M} {N} {r} a e =
     let p = quiet_parts r e in subst (λ (m : Memory). Q (knowledge T m)) (sym (a.unchanged p.0)) (a.quiet p.0 p.1)

@@ -6,7 +6,7 @@ use mathlib.Core.List.{List, [], ◌∷◌, ◌++◌, map, Memᴰ}
 use lib.ListN.{length}
 use Rattle.table.specs.Table.{Table}
 use Rattle.table.specs.Facts.{Wellformed}
-use Rattle.ctl.specs.Levels.{below}
+use Rattle.ctl.specs.Range.{below}
 use Rattle.ctl.proofs.Select.{in_below}
 use Rattle.circuit.specs.Variables.{Var, step}
 use Rattle.circuit.specs.Gates.{Defined, gates}
@@ -28,7 +28,8 @@ no_repeat_between [] ys n = each_none _
 no_repeat_between (x ∷ xs) ys n = each_more _ x xs (λ m. n.0 (Memᴰ.append_right xs m)) (no_repeat_between xs ys n.1)
 
 -- gates in order whose outputs differ, and are not in K
-follows_apart : (K : Var → Type 0) (ds : List Defined) → Follows K ds → ((v : Var) → K v → ¬ Memᴰ v (outputs ds)) → NoRepeat (outputs ds)
+follows_apart : (K : Var → Type 0) (ds : List Defined) → Follows K ds → ((v : Var) → K v → ¬ Memᴰ v (outputs ds))
+    → NoRepeat (outputs ds)
     → Each (λ d. Reads (λ v. ¬ (v ≡ d.output)) d.gate) ds
 follows_apart K [] f outside n = each_none _
 follows_apart K (d ∷ ds) f outside n = each_more _ d ds
@@ -38,7 +39,8 @@ follows_apart K (d ∷ ds) f outside n = each_more _ d ds
 -- no input of a gate is its output
 pub gates_apart : (T : Table) → Wellformed T → Each (λ d. Reads (λ v. ¬ (v ≡ d.output)) d.gate) (gates T)
 gates_apart T wf = follows_apart (IsStep T) (gates T) (gates_ordered T wf)
-    (λ v k. no_repeat_between steps (outputs (gates T)) distinct v (Memᴰ.cast (sym k.2) (Memᴰ.map step ((in_below (length T.steps) k.0).1 k.1))))
+    (λ v k. no_repeat_between steps (outputs (gates T)) distinct v
+    (Memᴰ.cast (sym k.2) (Memᴰ.map step ((in_below (length T.steps) k.0).1 k.1))))
     (no_repeat_second steps (outputs (gates T)) distinct)
   where
     steps : List Var

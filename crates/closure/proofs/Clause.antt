@@ -1,4 +1,5 @@
--- One clause under marks: they contradict all of it, or leave one literal alone, which is marked, or are closed under it.
+-- One clause under marks: they contradict all of it, or leave one literal alone, which is marked, or are closed under
+-- it.
 use Prim.Native.Nat.{ℕ}
 use mathlib.Core.Path.{◌≡◌, refl, sym, ap, subst, ◌∙◌}
 use mathlib.Core.Bool.{Bool, true, false, not, cond, ◌&&◌, true≢false}
@@ -8,8 +9,21 @@ use mathlib.Core.List.{List, [], ◌∷◌, Memᴰ}
 use Rattle.table.specs.Accept.{all}
 use Rattle.ctl.proofs.Tabulate.{all_true}
 use Rattle.circuit.specs.Logic.{Literal, opposite}
-use Rattle.closure.specs.Closure.{Marks, unknown, mark_at, is_known, contradicted, same_literal, holding, open_in, Progress, clash, marked, take_clause}
-use Rattle.closure.proofs.Forced.{Alone, Closed}
+use Rattle.closure.specs.Computed.{
+  Marks,
+  unknown,
+  mark_at,
+  is_known,
+  contradicted,
+  same_literal,
+  holding,
+  open_in,
+  Progress,
+  clash,
+  marked,
+  take_clause,
+}
+use Rattle.closure.proofs.Forced.{Alone, ClauseClosed}
 use Rattle.closure.proofs.Marks.{Holds, same_literal_lem, literal_discrete, contradicted_holds, open_known, unknown_at}
 
 -- the clause has a literal, and each of its literals is contradicted by Q
@@ -21,7 +35,7 @@ pub data Taken (C : List (Literal ℕ)) (m : Marks) (new : Bool) : Progress → 
   all-against : Against (Holds m) C → Taken C m new clash
   one_left : (l : Literal ℕ) → Memᴰ l C → Alone (Holds m) C l → mark_at m l.var ≡ unknown
       → Taken C m new (marked (holding m l) true)
-  at_rest : Closed (Holds m) C → Taken C m new (marked m new)
+  at_rest : ClauseClosed (Holds m) C → Taken C m new (marked m new)
 
 -- ---- the open literals
 
@@ -38,10 +52,12 @@ module _ (m : Marks) where
       later : Open C → Open (x ∷ C)
       later r = (Memᴰ.tail r.0, r.1)
 
-      go : (b : Bool) → contradicted m x ≡ b → Memᴰ l (cond b (open_in m C) (x ∷ open_in m C)) → (Memᴰ l (open_in m C) → Open C)
+      go : (b : Bool) → contradicted m x ≡ b → Memᴰ l (cond b (open_in m C) (x ∷ open_in m C))
+          → (Memᴰ l (open_in m C) → Open C)
           → Open (x ∷ C)
       go true e h rest = later (rest h)
-      go false e h rest = ⊎_elim (λ p. (Memᴰ.head p, ap (contradicted m) p ∙ e)) (λ n. later (rest n)) (Memᴰ.cases_cons h)
+      go false e h rest =
+          ⊎_elim (λ p. (Memᴰ.head p, ap (contradicted m) p ∙ e)) (λ n. later (rest n)) (Memᴰ.cases_cons h)
 
   -- a literal that is not contradicted is open
   open_full : {l : Literal ℕ} {C : List (Literal ℕ)} → Memᴰ l C → contradicted m l ≡ false → Memᴰ l (open_in m C)
@@ -101,10 +117,11 @@ module _ (m : Marks) (new : Bool) where
     alone_first l alone = (all_true (same_literal x) xs).1 same
       where
         same : (k : Literal ℕ) → Memᴰ k xs → same_literal x k ≡ true
-        same k o = (same_literal_lem x k).1 (open_alone m C l x alone first ∙ sym (open_alone m C l k alone (is_open k (Memᴰ.tail o))))
+        same k o = (same_literal_lem x k).1
+            (open_alone m C l x alone first ∙ sym (open_alone m C l k alone (is_open k (Memᴰ.tail o))))
 
     -- where it is held, the marks are closed
-    first-held : Holds m x → Closed (Holds m) C
+    first-held : Holds m x → ClauseClosed (Holds m) C
     first-held held l h alone = subst (Holds m) (open_alone m C l x alone first) held
 
     some_open : Taken C m new (take_clause C (x ∷ xs) m new)

@@ -1,5 +1,6 @@
--- The unit rule at the gate of a step and at N. A and E are treated at once: with `sign` true for A and false for E, the literal of N with
--- this sign is the AND of those of the step gates, and the opposite one of a step gate is the AND of the step and the opposite one of the end.
+-- The unit rule at the gate of a step and at N. A and E are treated at once: with `sign` true for A and false for E,
+-- the literal of N with this sign is the AND of those of the step gates, and the opposite one of a step gate is the
+-- AND of the step and the opposite one of the end.
 use Prim.Native.Nat.{ℕ}
 use mathlib.Core.Path.{◌≡◌, refl, ap, subst}
 use mathlib.Core.Bool.{Bool, not}
@@ -7,11 +8,10 @@ use mathlib.Core.List.Memᴰ
 use mathlib.Core.List.{List, [], ◌∷◌, map, map-map, Memᴰ}
 use Rattle.ctl.specs.Rule.{Quantifier, every, some}
 use Rattle.circuit.specs.Logic.{Literal, pos, neg, opposite}
-use Rattle.circuit.specs.Variables.{Var, step}
+use Rattle.circuit.specs.Variables.{Var, step, literal}
 use Rattle.circuit.specs.Gates.{edge_gate, ahead_gate}
 use Rattle.circuit.proofs.Lists.{each_more, each_one, each_map}
 use Rattle.closure.specs.Dual.{is_every}
-use Rattle.closure.specs.Inside.{literal}
 use Rattle.closure.proofs.GateRules.{ClosedAnd, twice_in, in_twice, and_up, and_down, and-false, and_last}
 use Rattle.closure.proofs.GateOf.{ClosedGate}
 
@@ -50,7 +50,8 @@ module _ (S : Literal Var → Type 0) (sign : Bool) (j : ℕ) (gate end : Var) w
         (each_more _ _ _ (λ other. q) (each_one _ _ (λ other. absurd (other refl)))))
 
 -- the clauses of the step gate are these
-pub edge_and : (S : Literal Var → Type 0) (q : Quantifier) (j : ℕ) (gate end : Var) → ClosedGate S gate (edge_gate q j end)
+pub edge_and : (S : Literal Var → Type 0) (q : Quantifier) (j : ℕ) (gate end : Var)
+    → ClosedGate S gate (edge_gate q j end)
     → ClosedEdge S (is_every q) j gate end
 edge_and S every j gate end c = c
 edge_and S some j gate end c = c
@@ -75,7 +76,8 @@ module _ (S : Literal Var → Type 0) (sign : Bool) (N : Var) (gate : ℕ → Va
     pub ahead_last : (j : ℕ) → Memᴰ j js → S (literal (not sign) N)
         → ((k : ℕ) → Memᴰ k js → ¬ (k ≡ j) → S (literal sign (gate k))) → S (literal (not sign) (gate j))
     ahead_last j m p others = and_last c (literal sign (gate j)) (Memᴰ.map (λ j. literal sign (gate j)) m) p
-        (each_map _ (λ j. literal sign (gate j)) js (λ k n other. others k n (λ e. other (ap (λ (j : ℕ). literal sign (gate j)) e))))
+        (each_map _ (λ j. literal sign (gate j)) js
+        (λ k n other. others k n (λ e. other (ap (λ (j : ℕ). literal sign (gate j)) e))))
 
 -- the clauses of N are these
 pub ahead_and : (S : Literal Var → Type 0) (q : Quantifier) (N : Var) (gate : ℕ → Var) (js : List ℕ)

@@ -1,5 +1,5 @@
--- The forced literals, over any variables: they are the least set closed under the unit rule, every model above the given literals has
--- them, and where they settle each variable without failing they are a model.
+-- The forced literals, over any variables: they are the least set closed under the unit rule, every model above the
+-- given literals has them, and where they settle each variable without failing they are a model.
 use mathlib.Core.Path.{◌≡◌, refl, sym, subst, ◌∙◌}
 use mathlib.Core.Bool.{Bool, true, false, not, true≢false, false≢true, Bool-discrete}
 use mathlib.Core.Logic.{◌⊎◌, inl, inr}
@@ -16,22 +16,24 @@ module _ {Var : Type 0} where
   Alone Q C l = (k : Literal Var) → Memᴰ k C → ¬ (k ≡ l) → Q (opposite k)
 
   -- Q has each literal that it leaves alone in the clause
-  abbrev pub Closed : (Literal Var → Type 0) → List (Literal Var) → Type 0
-  Closed Q C = (l : Literal Var) → Memᴰ l C → Alone Q C l → Q l
+  abbrev pub ClauseClosed : (Literal Var → Type 0) → List (Literal Var) → Type 0
+  ClauseClosed Q C = (l : Literal Var) → Memᴰ l C → Alone Q C l → Q l
 
 module _ {Var : Type 0} {F : List (List (Literal Var))} {P : Literal Var → Type 0} where
   -- the forced literals are closed under the unit rule
-  pub forced_closed : (C : List (Literal Var)) → Memᴰ C F → Closed (Forced F P) C
+  pub forced_closed : (C : List (Literal Var)) → Memᴰ C F → ClauseClosed (Forced F P) C
   forced_closed C c l = unit C c
 
   -- every set that holds P and is closed under the unit rule has the forced literals
   pub forced_least : {Q : Literal Var → Type 0} → ((l : Literal Var) → P l → Q l)
-      → ((C : List (Literal Var)) → Memᴰ C F → Closed Q C) → {l : Literal Var} → Forced F P l → Q l
+      → ((C : List (Literal Var)) → Memᴰ C F → ClauseClosed Q C) → {l : Literal Var} → Forced F P l → Q l
   forced_least start closed (given {l = l} p) = start l p
-  forced_least start closed (unit {l = l} C c h alone) = closed C c l h (λ k m d. forced_least start closed (alone k m d))
+  forced_least start closed (unit {l = l} C c h alone) =
+      closed C c l h (λ k m d. forced_least start closed (alone k m d))
 
 -- more given forces more
-pub forced_monotone : {Var : Type 0} {F : List (List (Literal Var))} {P Q : Literal Var → Type 0} → ((l : Literal Var) → P l → Q l)
+pub forced_monotone : {Var : Type 0} {F : List (List (Literal Var))} {P Q : Literal Var → Type 0}
+    → ((l : Literal Var) → P l → Q l)
     → {l : Literal Var} → Forced F P l → Forced F Q l
 forced_monotone sub = forced_least (λ l p. given (sub l p)) forced_closed
 
@@ -65,16 +67,18 @@ module _ {Var : Type 0} (α : Var → Bool) where
       go (yes e) = e
       go (no n) = absurd (not_both t (others (λ e. n (subst (Makes α) e t))))
 
-  true_closed : (C : List (Literal Var)) → SomeTrue C → Closed (Makes α) C
+  true_closed : (C : List (Literal Var)) → SomeTrue C → ClauseClosed (Makes α) C
   true_closed C (k, h, t) l _ alone = alone_true k l t (alone k h)
 
   -- a model of the clauses that makes what is given true makes each forced literal true
-  pub forced_sound : {F : List (List (Literal Var))} {P : Literal Var → Type 0} → Satisfies α F → ((l : Literal Var) → P l → Makes α l)
+  pub forced_sound : {F : List (List (Literal Var))} {P : Literal Var → Type 0} → Satisfies α F
+      → ((l : Literal Var) → P l → Makes α l)
       → {l : Literal Var} → Forced F P l → Makes α l
   forced_sound model above = forced_least above (λ C c. true_closed C (model C c))
 
   -- so what fails has no model above it
-  pub fails_no_model : {F : List (List (Literal Var))} {P : Literal Var → Type 0} → Satisfies α F → ((l : Literal Var) → P l → Makes α l)
+  pub fails_no_model : {F : List (List (Literal Var))} {P : Literal Var → Type 0} → Satisfies α F
+      → ((l : Literal Var) → P l → Makes α l)
       → ¬ Fails F P
   fails_no_model model above f = not_both (forced_sound model above f.1) (forced_sound model above f.2)
 
@@ -102,12 +106,14 @@ module _ {Var : Type 0} (α : Var → Bool) where
       go (inr f) (inl (l, h, t)) = inl (l, Memᴰ.tail h, t)
       go (inr f) (inr none) = inr (none_cons x C f none)
 
-  -- where the closure does not fail and has each literal that α makes true, of the variables of the clauses, α is a model
+  -- where the closure does not fail and has each literal that α makes true, of the variables of the clauses, α is a
+  -- model
   pub settled_models : {F : List (List (Literal Var))} {P : Literal Var → Type 0} → ¬ Memᴰ [] F → ¬ Fails F P
       → ((l : Literal Var) → Occurs l.var F → Makes α l → Forced F P l) → Satisfies α F
   settled_models {F} {P} full sound settled C c = go C c (some_or_none C)
     where
-      against : (C : List (Literal Var)) → Memᴰ C F → NoneTrue C → (k : Literal Var) → Memᴰ k C → Forced F P (opposite k)
+      against : (C : List (Literal Var)) → Memᴰ C F → NoneTrue C → (k : Literal Var) → Memᴰ k C
+          → Forced F P (opposite k)
       against C c none k h = settled (opposite k) (C, c, k, h, refl) (none k h)
 
       clashes : (C : List (Literal Var)) → Memᴰ C F → (l : Literal Var) → Memᴰ l C → NoneTrue C → Fails F P

@@ -1,4 +1,5 @@
--- Given literals of variables below a size, no two of which contradict each other: their marks hold them and no other literal.
+-- Given literals of variables below a size, no two of which contradict each other: their marks hold them and no other
+-- literal.
 use Prim.Native.Nat.{ℕ, zero, suc}
 use native.Mathlib.Decide.{ℕ_discrete}
 use mathlib.Core.Path.{◌≡◌, refl, sym, subst, ◌∙◌}
@@ -8,13 +9,14 @@ use mathlib.Core.List.{List, [], ◌∷◌, Memᴰ}
 use lib.ListN.{length, replicate, length-set, length-replicate}
 use lib.Seq.{get_or-set_other}
 use Rattle.circuit.specs.Logic.{Literal, opposite}
-use Rattle.closure.specs.Closure.{Marks, unknown, known, mark_at, holding, marks_of}
-use Rattle.closure.specs.Given.{Within, Consistent}
+use Rattle.closure.specs.Computed.{Marks, unknown, known, mark_at, holding, marks_of}
+use Rattle.closure.specs.Given.{VariablesBelow, Consistent}
 use Rattle.closure.proofs.Forced.{one_of_both}
 use Rattle.closure.proofs.Marks.{Holds, literal_path, holds_known, holding-has, holding-only}
 
 -- literals below size stay so with the first dropped
-pub within_tail : {size : ℕ} {x : Literal ℕ} {P : List (Literal ℕ)} → Within size (x ∷ P) → Within size P
+pub within_tail : {size : ℕ} {x : Literal ℕ} {P : List (Literal ℕ)} → VariablesBelow size (x ∷ P)
+    → VariablesBelow size P
 within_tail within k h = within k (Memᴰ.tail h)
 
 -- consistent literals stay so with the first dropped
@@ -38,7 +40,8 @@ all_unknown (suc size) (suc v) = all_unknown size v
 pub given_only : (size : ℕ) (P : List (Literal ℕ)) (l : Literal ℕ) → Holds (marks_of size P) l → Memᴰ l P
 unfolding marks_of
 given_only size [] l h = absurd (holds_known (replicate size unknown) l h (all_unknown size l.var))
-given_only size (x ∷ P) l h = ⊎_elim Memᴰ.head (λ h'. Memᴰ.tail (given_only size P l h')) (holding-only (marks_of size P) x l h)
+given_only size (x ∷ P) l h =
+    ⊎_elim Memᴰ.head (λ h'. Memᴰ.tail (given_only size P l h')) (holding-only (marks_of size P) x l h)
 
 opposite_or_same : (k l : Literal ℕ) → k.var ≡ l.var → (k ≡ l) ⊎ (opposite k ≡ l)
 opposite_or_same k l e = ⊎_elim
@@ -47,7 +50,8 @@ opposite_or_same k l e = ⊎_elim
     (one_of_both l.sign k.sign)
 
 -- they hold each given literal
-pub given_held : (size : ℕ) (P : List (Literal ℕ)) → Within size P → Consistent P → (l : Literal ℕ) → Memᴰ l P → Holds (marks_of size P) l
+pub given_held : (size : ℕ) (P : List (Literal ℕ)) → VariablesBelow size P → Consistent P → (l : Literal ℕ) → Memᴰ l P
+    → Holds (marks_of size P) l
 unfolding marks_of
 given_held size [] within consistent l m = absurd (Memᴰ.not-nil m)
 given_held size (x ∷ P) within consistent l m = ⊎_elim here

@@ -17,7 +17,8 @@ use Rattle.closure.proofs.RulesSmall.{either_small, release_small, always_small}
 none_clear : (s : ℕ) → ClearAt s (row 0 0)
 none_clear s e f = false≢true (sym (member-zero s) ∙ e)
 
-release_clear : (l a b N : Row) → SmallRow l → SmallRow a → SmallRow b → SmallRow N → (join_release l a b N).fails ≡ false → (s : ℕ)
+release_clear : (l a b N : Row) → SmallRow l → SmallRow a → SmallRow b → SmallRow N
+    → (join_release l a b N).fails ≡ false → (s : ℕ)
     → ClearAt s (either_row l a b N) × ClearAt s (join_release l a b N).ahead
 release_clear l a b N L A B H e s =
     let p = or_neither (clashes (either_row l a b N)) (clashes (join_release l a b N).ahead) e in (
@@ -25,15 +26,21 @@ release_clear l a b N L A B H e s =
       clear_row (join_release l a b N).ahead (release_small l a b N L A B H).ahead p.1 s,
     )
 
-always_clear : (l b N : Row) → SmallRow l → SmallRow b → SmallRow N → (join_always l b N).fails ≡ false → (s : ℕ) → ClearAt s (join_always l b N).ahead
+always_clear : (l b N : Row) → SmallRow l → SmallRow b → SmallRow N → (join_always l b N).fails ≡ false → (s : ℕ)
+    → ClearAt s (join_always l b N).ahead
 always_clear l b N L B H e s = clear_row (join_always l b N).ahead (always_small l b N L B H).ahead e s
 
-pub join_clear : (fam : Family) (l a b N : Row) → SmallRow l → SmallRow a → SmallRow b → SmallRow N → (join_of fam l a b N).fails ≡ false → (s : ℕ)
+pub join_clear : (fam : Family) (l a b N : Row) → SmallRow l → SmallRow a → SmallRow b → SmallRow N
+    → (join_of fam l a b N).fails ≡ false → (s : ℕ)
     → ClearAt s (inner_of fam l a b N) × ClearAt s (join_of fam l a b N).ahead
 join_clear Release l a b N L A B H e s = release_clear l a b N L A B H e s
 join_clear Until l a b N L A B H e s =
-    let r = release_clear _ _ _ _ (turned_small false l L) (turned_small false a A) (turned_small false b B) (turned_small false N H) e s in
+    let r = release_clear _ _ _ _ (turned_small false l L) (turned_small false a A) (turned_small false b B)
+    (turned_small false N H) e s in
     (clear_turned false _ s r.0, clear_turned false _ s r.1)
-join_clear Eventually l a b N L A B H e s =
-    (none_clear s, clear_turned false _ s (always_clear _ _ _ (turned_small false l L) (turned_small false b B) (turned_small false N H) e s))
+join_clear Eventually l a b N L A B H e s = (
+  none_clear s,
+  clear_turned false _ s
+      (always_clear _ _ _ (turned_small false l L) (turned_small false b B) (turned_small false N H) e s),
+)
 join_clear Always l a b N L A B H e s = (none_clear s, always_clear l b N L B H e s)

@@ -28,10 +28,12 @@ module _ (T : Table) where
   past i h = ap (level_sizes (length T.states)) (take_all i T.nodes h)
 
   -- the words of the next node begin where those of this one end
-  pub base_on : (i : ℕ) → level_base T (i + 1) ≡ level_base T i + level_size (length T.states) (operator_of (node_at T i))
+  pub base_on : (i : ℕ) → level_base T (i + 1)
+      ≡ level_base T i + level_size (length T.states) (operator_of (node_at T i))
   base_on i = go (dec_lt i (length T.nodes))
     where
-      go : Dec (i < length T.nodes) → level_base T (i + 1) ≡ level_base T i + level_size (length T.states) (operator_of (node_at T i))
+      go : Dec (i < length T.nodes)
+          → level_base T (i + 1) ≡ level_base T i + level_size (length T.states) (operator_of (node_at T i))
       go (yes h) = base_next T i h
       go (no d) =
           let size : level_size (length T.states) (operator_of (node_at T i)) ≡ 0 =

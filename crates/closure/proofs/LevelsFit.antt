@@ -1,4 +1,5 @@
--- Where the stored levels lie: the words of each node begin where those of the nodes before it end, and all of them fit into what there is of levels.
+-- Where the stored levels lie: the words of each node begin where those of the nodes before it end, and all of them
+-- fit into what there is of levels.
 use Prim.Native.Nat.{ℕ, zero, suc, ◌+◌, ◌*◌, ◌-◌, ◌≤◌, ◌<◌, zero-le}
 use native.Mathlib.Numerals.{add-one}
 use native.Mathlib.Omega.{arith}
@@ -41,10 +42,13 @@ level_apart T i k l h =
     omega (arith, base_next T i (omega arith), sizes_up (length T.states) T.nodes (i + 1) k (omega arith))
 
 -- and all of them before the end
-pub level-place : (T : Table) (i : ℕ) (fam : Family) (q : Quantifier) (a b : ℕ) → i < length T.nodes → operator_of (node_at T i) ≡ fixpoint fam q a b
+pub level-place : (T : Table) (i : ℕ) (fam : Family) (q : Quantifier) (a b : ℕ) → i < length T.nodes
+    → operator_of (node_at T i) ≡ fixpoint fam q a b
     → level_base T i + 2 * (length T.states - 1) ≤ level_total T
 level-place T i fam q a b h e =
     let n = length T.states in
-    let ends : level_base T (i + 1) ≡ level_base T i + 2 * (n - 1) = base_next T i h ∙ ap (λ (o : Operator). level_base T i + level_size n o) e in
-    let all : level_base T (length T.nodes) ≡ level_total T = ap (level_sizes n) (take_all (length T.nodes) T.nodes (omega arith)) in
+    let ends : level_base T (i + 1) ≡ level_base T i + 2 * (n - 1) =
+    base_next T i h ∙ ap (λ (o : Operator). level_base T i + level_size n o) e in
+    let all : level_base T (length T.nodes) ≡ level_total T =
+    ap (level_sizes n) (take_all (length T.nodes) T.nodes (omega arith)) in
     omega (arith, ends, all, sizes_up n T.nodes (i + 1) (length T.nodes) (omega arith))

@@ -41,11 +41,11 @@ pub mod RestKept
 pub mod RestDemands
 pub mod RestNodes
 pub mod RestForced
-pub mod JoinedSum
-pub mod InsideLess
+pub mod AddedSum
+pub mod KnowledgeInLess
 pub mod Advances
 pub mod AddAdvance
-pub mod InsideParts
+pub mod KnowledgeInParts
 pub mod AddSound
 pub mod AddPlaces
 pub mod AddLevel

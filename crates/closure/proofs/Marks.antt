@@ -12,7 +12,18 @@ use lib.Dec.{eqb}
 use lib.ListN.{length, set}
 use lib.Seq.{get_or-set_same, get_or-set_other, set_out}
 use Rattle.circuit.specs.Logic.{Literal, opposite}
-use Rattle.closure.specs.Closure.{Mark, unknown, known, Marks, mark_at, is_known, against, contradicted, same_literal, holding}
+use Rattle.closure.specs.Computed.{
+  Mark,
+  unknown,
+  known,
+  Marks,
+  mark_at,
+  is_known,
+  against,
+  contradicted,
+  same_literal,
+  holding,
+}
 use Rattle.closure.proofs.Forced.{not_both}
 
 -- the marks have the literal
@@ -145,7 +156,8 @@ unknowns_le (unknown ∷ m) = suc-le-suc (unknowns_le m)
 unknowns_le (known b ∷ m) = le_trans (unknowns_le m) (le-suc (length m))
 
 -- a mark where there was none leaves fewer
-pub unknowns_fall : (m : Marks) (v : ℕ) (b : Bool) → v < length m → mark_at m v ≡ unknown → unknowns (set m v (known b)) < unknowns m
+pub unknowns_fall : (m : Marks) (v : ℕ) (b : Bool) → v < length m → mark_at m v ≡ unknown
+    → unknowns (set m v (known b)) < unknowns m
 unknowns_fall [] v b h e = absurd (not-suc-le-zero h)
 unknowns_fall (unknown ∷ m) zero b h e = omega arith
 unknowns_fall (known c ∷ m) zero b h e = absurd (known_unknown c e)

@@ -1,5 +1,5 @@
--- Rows of which only the states of a set are looked at: they know nothing besides, so they are forced where the rows are, and at a state of the set
--- they know what the rows know, so what the rules add there is the same.
+-- Rows of which only the states of a set are looked at: they know nothing besides, so they are forced where the rows
+-- are, and at a state of the set they know what the rows know, so what the rules add there is the same.
 use Prim.Native.Nat.{ℕ, ◌<◌}
 use native.Mathlib.Nat.{lt_of_le_of_lt}
 use native.Mathlib.Omega.{arith}
@@ -20,7 +20,7 @@ use Rattle.ctl.specs.Rule.{Quantifier}
 use Rattle.circuit.specs.Logic.{Literal}
 use Rattle.circuit.specs.Variables.{Var}
 use Rattle.rows.specs.declared.row.Row.{Row}
-use Rattle.rows.specs.Row.{turned, WithinAt, Within}
+use Rattle.rows.specs.Row.{turn, WithinAt, Within}
 use Rattle.rows.specs.Words.{row_at, SmallRow, step_place}
 use Rattle.rows.specs.Rules.{unmet, masked, ahead_row, ahead_at, back_steps, back_end}
 use Rattle.rows.proofs.RowLaws.{and-true, turned_small}
@@ -28,7 +28,7 @@ use Rattle.closure.specs.Dual.{is_every}
 use Rattle.closure.specs.Knowledge.{Knowledge}
 use Rattle.propagate.specs.Memory.{Memory, ahead_in}
 use Rattle.readers.specs.Reads.{AgreeAt}
-use Rattle.closure.specs.Inside.{RowIn}
+use Rattle.closure.specs.KnowledgeIn.{RowIn}
 use Rattle.closure.specs.Rest.{RestBack}
 use Rattle.closure.proofs.TurnedRows.{within_duals}
 use Rattle.closure.proofs.RulesSmall.{ahead_small}
@@ -50,7 +50,8 @@ and-all true b e = e
 and-all false b e = refl
 
 -- a row that knows no more is forced too
-pub less_in : (T : Table) (S : Literal Var → Type 0) (v : ℕ → Var) (q r : Row) → Within q r → RowIn T S v r → RowIn T S v q
+pub less_in : (T : Table) (S : Literal Var → Type 0) (v : ℕ → Var) (q r : Row) → Within q r → RowIn T S v r
+    → RowIn T S v q
 less_in T S v q r less given sign s k = given sign s (less s sign k)
 
 module _ (set : ℕ) (r : Row) where
@@ -69,17 +70,21 @@ module _ (set : ℕ) (r : Row) where
 
 -- the members of a set that have f, against all states below n that have g, where f and g agree
 module _ (n set : ℕ) (f g : ℕ → Bool) (same : (s : ℕ) → s < n → f s ≡ g s) where
-  part_within : ((s : ℕ) → member set s ≡ true → s < n) → (s : ℕ) → member (set_of 32 (λ s. member set s && f s)) s ≡ true → member (set_of n g) s ≡ true
+  part_within : ((s : ℕ) → member set s ≡ true → s < n) → (s : ℕ)
+      → member (set_of 32 (λ s. member set s && f s)) s ≡ true → member (set_of n g) s ≡ true
   part_within inside s m =
       let p = and_parts (member set s) (f s) ((in_set 32 (λ s. member set s && f s) s).0 m).1 in
       let l = inside s p.0 in
       (in_set n g s).1 (l, sym (same s l) ∙ p.1)
 
-  part_agrees : n < 33 → (s : ℕ) → s < n → member set s ≡ true → member (set_of n g) s ≡ member (set_of 32 (λ s. member set s && f s)) s
+  part_agrees : n < 33 → (s : ℕ) → s < n → member set s ≡ true
+      → member (set_of n g) s ≡ member (set_of 32 (λ s. member set s && f s)) s
   part_agrees few s l m = member-set_of-below n g s l
-      ∙ sym (member-set_of-below 32 (λ s. member set s && f s) s (omega arith) ∙ ap (λ (b : Bool). b && f s) m ∙ same s l)
+      ∙ sym (member-set_of-below 32 (λ s. member set s && f s) s (omega arith) ∙ ap (λ (b : Bool). b && f s) m
+      ∙ same s l)
 
-module _ (T : Table) (wf : Wellformed T) (targets : List ℕ) (ends : (s : ℕ) → s < 32 → get_or targets s 0 ≡ target_set T.steps s)
+module _ (T : Table) (wf : Wellformed T) (targets : List ℕ) (ends : (s : ℕ) → s < 32
+    → get_or targets s 0 ≡ target_set T.steps s)
     (look : ℕ) (q : Quantifier) (E : Row) (M : Memory) where
   abbrev n : ℕ
   n = length T.states
@@ -89,10 +94,10 @@ module _ (T : Table) (wf : Wellformed T) (targets : List ℕ) (ends : (s : ℕ) 
 
   -- N at the states of the set, with the ends in the list, and N of all states, with the ends of the table
   abbrev part : Row
-  part = ahead_at (λ s. get_or targets s 0) (step_rows M) look (turned (is_every q) E)
+  part = ahead_at (λ s. get_or targets s 0) (step_rows M) look (turn (is_every q) E)
 
   abbrev all : Row
-  all = ahead_row (target_set T.steps) (step_rows M) n (turned (is_every q) E)
+  all = ahead_row (target_set T.steps) (step_rows M) n (turn (is_every q) E)
 
   abbrev here : Row
   here = ahead_in targets look (is_every q) E M
@@ -100,16 +105,16 @@ module _ (T : Table) (wf : Wellformed T) (targets : List ℕ) (ends : (s : ℕ) 
   abbrev over : Row
   over = ahead_over T q (step_rows M) E
 
-  met_same : (s : ℕ) → s < n → eqb (unmet (get_or targets s 0) (step_rows M s) (turned (is_every q) E)) 0
-      ≡ eqb (unmet (target_set T.steps s) (step_rows M s) (turned (is_every q) E)) 0
-  met_same s l = ap (λ (t : ℕ). eqb (unmet t (step_rows M s) (turned (is_every q) E)) 0) (ends s (omega (arith, few)))
+  met_same : (s : ℕ) → s < n → eqb (unmet (get_or targets s 0) (step_rows M s) (turn (is_every q) E)) 0
+      ≡ eqb (unmet (target_set T.steps s) (step_rows M s) (turn (is_every q) E)) 0
+  met_same s l = ap (λ (t : ℕ). eqb (unmet t (step_rows M s) (turn (is_every q) E)) 0) (ends s (omega (arith, few)))
 
   pub ahead_here_small : SmallRow here
   ahead_here_small = turned_small (is_every q) _ (set_of-lt 32 _, set_of-lt 32 _)
 
   pub ahead_over_small : SmallRow over
   ahead_over_small = turned_small (is_every q) _
-      (ahead_small (target_set T.steps) (step_rows M) n (turned (is_every q) E) few)
+      (ahead_small (target_set T.steps) (step_rows M) n (turn (is_every q) E) few)
 
   -- N at a state that is not of the table would be forced by nothing
   pub ahead_within : OfStates T look → Within here over
@@ -127,17 +132,20 @@ module _ (T : Table) (wf : Wellformed T) (targets : List ℕ) (ends : (s : ℕ) 
       at false = part_agrees n look _ _ (λ s l. refl) few s l m
 
 -- what was known of N is taken back alike
-pub back_agrees : (T : Table) (K : Knowledge) (q : Quantifier) (A A' E : Row) (s : ℕ) → AgreeAt s A A' → RestBack T K q A E s → RestBack T K q A' E s
+pub back_agrees : (T : Table) (K : Knowledge) (q : Quantifier) (A A' E : Row) (s : ℕ) → AgreeAt s A A'
+    → RestBack T K q A E s → RestBack T K q A' E s
 back_agrees T K q A A' E s agree back = record {
-  steps = subst (λ (r : Row). Within r (K.steps s)) (λ i. back_steps t (K.steps s) (ends E) (sym (same true) i) (sym (same false) i)) back.steps;
-  ends = subst (λ (r : Row). Within r (ends E)) (λ i. back_end t (K.steps s) (ends E) (sym (same true) i) (sym (same false) i)) back.ends;
+  steps = subst (λ (r : Row). Within r (K.steps s))
+      (λ i. back_steps t (K.steps s) (ends E) (sym (same true) i) (sym (same false) i)) back.steps;
+  ends = subst (λ (r : Row). Within r (ends E))
+      (λ i. back_end t (K.steps s) (ends E) (sym (same true) i) (sym (same false) i)) back.ends;
 }
   where
     t : ℕ
     t = target_set T.steps s
 
     ends : Row → Row
-    ends = turned (is_every q)
+    ends = turn (is_every q)
 
     same : AgreeAt s (ends A) (ends A')
     same = turned_agrees (is_every q) A A' s agree

@@ -1,4 +1,5 @@
--- Assignments of the variables of a table and of their numbers: the models of the clauses are those of the numbered clauses.
+-- Assignments of the variables of a table and of their numbers: the models of the clauses are those of the numbered
+-- clauses.
 use Prim.Native.Nat.{ℕ}
 use mathlib.Core.Path.{ap, sym, subst, ◌∙◌}
 use mathlib.Core.Bool.{Bool}
@@ -25,11 +26,15 @@ module _ (T : Table) where
   on_variables β v = β (place v (variables T))
 
   -- a model of the clauses is one of the numbered clauses
-  pub model_numbered : Wellformed T → (α : Var → Bool) → Satisfies α (clauses T) → Satisfies (on_numbers α) (numbered_clauses T)
+  pub model_numbered : Wellformed T → (α : Var → Bool) → Satisfies α (clauses T)
+      → Satisfies (on_numbers α) (numbered_clauses T)
   unfolding numbered_clauses
   model_numbered wf α sat = each_map _ (map (numbered_literal T)) (clauses T) (λ C c.
-      let r = sat C c in
-      (numbered_literal T r.0, Memᴰ.map (numbered_literal T) r.1, ap α (place_at (clause_variables T wf C c r.0 r.1) (step 0)) ∙ r.2))
+      let r = sat C c in (
+        numbered_literal T r.0,
+        Memᴰ.map (numbered_literal T) r.1,
+        ap α (place_at (clause_variables T wf C c r.0 r.1) (step 0)) ∙ r.2,
+      ))
 
   -- and a model of the numbered clauses one of the clauses
   pub numbered_model : (β : ℕ → Bool) → Satisfies β (numbered_clauses T) → Satisfies (on_variables β) (clauses T)

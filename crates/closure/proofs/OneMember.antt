@@ -16,7 +16,8 @@ pub same_or : {A : Type 0} (u t : ℕ) → (u ≡ t → A) → (¬ (u ≡ t) →
 same_or u t f g = ⊎_elim (λ e. f (eqb-true u t e)) (λ e. g (eqb-false u t e)) (one_of_both (eqb u t) true)
 
 -- a set that is not empty and has no member but t has just t
-pub only_this : (x t : ℕ) → x < 2 ^ 32 → ¬ (eqb x 0 ≡ true) → ((u : ℕ) → member x u ≡ true → u ≡ t) → (member x t ≡ true) × (only x ≡ true)
+pub only_this : (x t : ℕ) → x < 2 ^ 32 → ¬ (eqb x 0 ≡ true) → ((u : ℕ) → member x u ≡ true → u ≡ t)
+    → (member x t ≡ true) × (only x ≡ true)
 only_this x t h some same =
     let c = nonempty_some x h (not_so _ some) in
     let here : member x t ≡ true = subst (λ (u : ℕ). member x u ≡ true) (same c.0 c.2) c.2 in

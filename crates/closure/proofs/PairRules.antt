@@ -1,12 +1,12 @@
--- The unit rule at a gate of two inputs, or of one: g is the AND of a and b, of the literals with this sign; with the sign false it is the OR.
+-- The unit rule at a gate of two inputs, or of one: g is the AND of a and b, of the literals with this sign; with the
+-- sign false it is the OR.
 use mathlib.Core.Path.{refl}
 use mathlib.Core.Bool.{Bool, true, false, not}
 use mathlib.Core.List.Memᴰ
 use mathlib.Core.List.{[], ◌∷◌}
 use Rattle.circuit.specs.Logic.{Literal, opposite}
-use Rattle.circuit.specs.Variables.{Var}
+use Rattle.circuit.specs.Variables.{Var, literal}
 use Rattle.circuit.proofs.Lists.{each_more, each_one}
-use Rattle.closure.specs.Inside.{literal}
 use Rattle.closure.proofs.GateRules.{ClosedAnd, and_up, and_down, and-false, and_last}
 
 -- S is closed under its clauses
@@ -49,11 +49,13 @@ module _ {S : Literal Var → Type 0} {g a b : Var} where
   or_right false c = right_false c
 
   -- the last input left
-  pub or_left_last : (sign : Bool) → ClosedPair S (not sign) g a b → S (literal sign g) → S (literal (not sign) b) → S (literal sign a)
+  pub or_left_last : (sign : Bool) → ClosedPair S (not sign) g a b → S (literal sign g) → S (literal (not sign) b)
+      → S (literal sign a)
   or_left_last true c = left_last c
   or_left_last false c = left_last c
 
-  pub or_right_last : (sign : Bool) → ClosedPair S (not sign) g a b → S (literal sign g) → S (literal (not sign) a) → S (literal sign b)
+  pub or_right_last : (sign : Bool) → ClosedPair S (not sign) g a b → S (literal sign g) → S (literal (not sign) a)
+      → S (literal sign b)
   or_right_last true c = right_last c
   or_right_last false c = right_last c
 

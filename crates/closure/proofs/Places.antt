@@ -1,4 +1,5 @@
--- The place of a variable in a list: it is where the variable stands, and step j has place j in the variables of a table.
+-- The place of a variable in a list: it is where the variable stands, and step j has place j in the variables of a
+-- table.
 use Prim.Native.Nat.{ℕ, suc, ◌+◌, ◌≤◌, ◌<◌, zero-le, suc-le-suc}
 use native.Mathlib.Omega.{arith}
 use mathlib.Core.Path.{◌≡◌, refl, sym, ap, ap₂, subst, ◌∙◌}
@@ -22,8 +23,8 @@ use Rattle.circuit.proofs.Outputs.{outputs, variables_outputs}
 use Rattle.circuit.proofs.Distinct.{variables_no_repeat, step_first}
 use Rattle.circuit.proofs.Covered.{clause_variables, clause_literal}
 use Rattle.closure.specs.Numbered.{code, same_code, place, numbered_literal, numbered_clauses}
-use Rattle.closure.specs.Given.{Within, Inside}
-use Rattle.ctl.specs.Levels.{below}
+use Rattle.closure.specs.Given.{VariablesBelow, ClausesBelow}
+use Rattle.ctl.specs.Range.{below}
 
 -- ---- the code of a variable
 
@@ -34,7 +35,8 @@ code-true [] (y ∷ ys) e = absurd (false≢true e)
 code-true (x ∷ xs) [] e = absurd (false≢true e)
 code-true (x ∷ xs) (y ∷ ys) e = go (eqb x y) refl e (code-true xs ys)
   where
-    go : (b : Bool) → eqb x y ≡ b → cond b (same_code xs ys) false ≡ true → (same_code xs ys ≡ true → xs ≡ ys) → (x ∷ xs) ≡ (y ∷ ys)
+    go : (b : Bool) → eqb x y ≡ b → cond b (same_code xs ys) false ≡ true → (same_code xs ys ≡ true → xs ≡ ys)
+        → (x ∷ xs) ≡ (y ∷ ys)
     go true q e rest = ap₂ ◌∷◌ (eqb-true x y q) (rest e)
     go false q e rest = absurd (false≢true e)
 
@@ -53,7 +55,8 @@ decode xs =
     let a : ℕ = get_or xs 1 0 in
     let b : ℕ = get_or xs 2 0 in
     let c : ℕ = get_or xs 3 0 in
-    get_or (step a ∷ kept a ∷ node a b ∷ edge a b c ∷ ahead a b c ∷ inner a b c ∷ level a b c ∷ []) (get_or xs 0 0) (step 0)
+    get_or (step a ∷ kept a ∷ node a b ∷ edge a b c ∷ ahead a b c ∷ inner a b c ∷ level a b c ∷ []) (get_or xs 0 0)
+    (step 0)
 
 decode_code : (v : Var) → decode (code v) ≡ v
 decode_code (step j) = refl
@@ -66,8 +69,10 @@ decode_code (level i m s) = refl
 
 -- the test of two codes is whether the variables are equal
 pub same_variable : (v w : Var) → (same_code (code v) (code w) ≡ true) ↔ (v ≡ w)
-same_variable v w =
-    (λ e. sym (decode_code v) ∙ ap decode ((same_code_lem (code v) (code w)).0 e) ∙ decode_code w, λ p. (same_code_lem (code v) (code w)).1 (ap code p))
+same_variable v w = (
+  λ e. sym (decode_code v) ∙ ap decode ((same_code_lem (code v) (code w)).0 e) ∙ decode_code w,
+  λ p. (same_code_lem (code v) (code w)).1 (ap code p),
+)
 
 -- ---- the place
 
@@ -84,7 +89,8 @@ placed d v (w ∷ ws) m = go (same_code (code v) (code w)) refl (placed d v ws)
         → Stands (w ∷ ws) (elim b [ true ↦ 0 | false ↦ suc (place v ws) ])
     go true e rest = (suc-le-suc zero-le, sym ((same_variable v w).0 e))
     go false e rest =
-        let r = rest (⊎_elim (λ p. absurd (true≢false (sym ((same_variable v w).1 p) ∙ e))) (λ i. i) (Memᴰ.cases_cons m)) in
+        let r = rest (⊎_elim (λ p. absurd (true≢false (sym ((same_variable v w).1 p) ∙ e))) (λ i. i)
+        (Memᴰ.cases_cons m)) in
         (suc-le-suc r.0, r.1)
 
 module _ {v : Var} {ws : List Var} (m : Memᴰ v ws) where
@@ -131,9 +137,9 @@ module _ (T : Table) where
 
 module _ (T : Table) (wf : Wellformed T) where
   -- every literal of a numbered clause has a number below the count of the variables
-  pub numbered_inside : Inside (variable_count T) (numbered_clauses T)
+  pub numbered_inside : ClausesBelow (variable_count T) (numbered_clauses T)
   unfolding numbered_clauses
-  numbered_inside = each_map (Within (variable_count T)) (map (numbered_literal T)) (clauses T)
+  numbered_inside = each_map (VariablesBelow (variable_count T)) (map (numbered_literal T)) (clauses T)
       (λ C c. each_map _ (numbered_literal T) C (λ l h. place_inside (clause_variables T wf C c l h)))
 
   -- no numbered clause is empty

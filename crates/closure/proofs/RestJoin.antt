@@ -1,4 +1,5 @@
--- Gates of two inputs at one state, where the rules add nothing: a node that is an AND, and G and the level of a fixed-point node.
+-- Gates of two inputs at one state, where the rules add nothing: a node that is an AND, and G and the level of a
+-- fixed-point node.
 use Prim.Native.Nat.{ℕ}
 use mathlib.Core.Path.{◌≡◌, refl}
 use mathlib.Core.Bool.{true, false}
@@ -7,14 +8,15 @@ use lib.Bits.{bit_and, bit_or}
 use Rattle.table.specs.declared.operator.Family.{Family}
 use Rattle.table.specs.declared.operator.Family.TheVariants.{Release, Until, Eventually, Always}
 use Rattle.rows.specs.declared.row.Row.{Row}
-use Rattle.rows.specs.Row.{known, turned, WithinAt, ClearAt}
+use Rattle.rows.specs.Row.{known, turn, WithinAt, ClearAt}
 use Rattle.rows.specs.Rules.{and_output, and_input, either_row, join_release, join_always, join_of, new_of}
 use Rattle.rows.proofs.RowLaws.{and-true, or-true}
 use Rattle.closure.proofs.TurnedRows.{within_turned, within_left}
 use Rattle.closure.proofs.Says.{AndRow}
 
 -- an AND of two nodes
-pub both_and : (g a b : Row) (s : ℕ) → WithinAt s (and_output g a b) g → WithinAt s (and_input g b) a → WithinAt s (and_input g a) b → AndRow g a b s
+pub both_and : (g a b : Row) (s : ℕ) → WithinAt s (and_output g a b) g → WithinAt s (and_input g b) a
+    → WithinAt s (and_input g a) b → AndRow g a b s
 both_and g a b s up left right = record {
   up = λ p q. up true ((or-true g.yes _ s).1 (inr ((and-true a.yes b.yes s).1 (p, q))));
   left = left true;
@@ -60,7 +62,7 @@ module _ (level a b ahead : Row) (s : ℕ) where
       (left : WithinAt s (join_release level a b ahead).a a)
       (right : WithinAt s (join_release level a b ahead).b b) where
     -- G is the opposite of an AND, of the opposites of a and of N
-    pub either_and : AndRow (turned false G) (turned false a) (turned false N) s
+    pub either_and : AndRow (turn false G) (turn false a) (turn false N) s
     either_and = record {
       up = λ e f. ⊎_elim (either_false e) (λ g. g) ((or-true ahead.no G.no s).0 f);
       left = left false;
@@ -123,15 +125,17 @@ module _ (level b ahead : Row) (s : ℕ) (clear : ClearAt s level)
 -- ---- a level of any family: for until and eventually, of the duals of the rows
 
 -- what is taken back of N is what its ends did not say already
-pub joined_more : (fam : Family) (level a b ahead : Row) → (join_of fam level a b ahead).more ≡ new_of (join_of fam level a b ahead).ahead ahead
-joined_more Release level a b ahead = refl
-joined_more Until level a b ahead = refl
-joined_more Eventually level a b ahead = refl
-joined_more Always level a b ahead = refl
+pub added_more : (fam : Family) (level a b ahead : Row)
+    → (join_of fam level a b ahead).more ≡ new_of (join_of fam level a b ahead).ahead ahead
+added_more Release level a b ahead = refl
+added_more Until level a b ahead = refl
+added_more Eventually level a b ahead = refl
+added_more Always level a b ahead = refl
 
 -- N has what was known of it
 pub joined_ahead : (fam : Family) (level a b ahead : Row) (s : ℕ) → WithinAt s ahead (join_of fam level a b ahead).ahead
 joined_ahead Release level a b ahead s = ahead_within level a b ahead s
-joined_ahead Until level a b ahead s = within_turned false _ _ s (ahead_within (turned false level) (turned false a) (turned false b) (turned false ahead) s)
-joined_ahead Eventually level a b ahead s = within_turned false _ _ s (within_left (turned false ahead) _ s)
+joined_ahead Until level a b ahead s =
+    within_turned false _ _ s (ahead_within (turn false level) (turn false a) (turn false b) (turn false ahead) s)
+joined_ahead Eventually level a b ahead s = within_turned false _ _ s (within_left (turn false ahead) _ s)
 joined_ahead Always level a b ahead s = within_left ahead _ s

@@ -6,7 +6,19 @@ use lib.ListN.{length}
 use Rattle.sets.specs.Member.{member}
 use Rattle.table.specs.Table.{Table, state_at, node_at}
 use Rattle.table.specs.Facts.{Wellformed}
-use Rattle.ctl.specs.Rule.{every, some, Operator, constant, atom, negation, conjunction, disjunction, next, fixpoint, operator_of}
+use Rattle.ctl.specs.Rule.{
+  every,
+  some,
+  Operator,
+  constant,
+  atom,
+  negation,
+  conjunction,
+  disjunction,
+  next,
+  fixpoint,
+  operator_of,
+}
 use Rattle.ctl.proofs.BottomUp.{OfChildren, of-children}
 use Rattle.circuit.specs.Gates.{node_gates, kept_gates, gates}
 use Rattle.circuit.proofs.Lists.{Each, each_append, each_over}
@@ -20,7 +32,8 @@ use Rattle.closure.proofs.RestKept.{kept_good}
 
 module _ (T : Table) (wf : Wellformed T) (K : Knowledge) (small : Small K) (rest : Rest T K) (ours : OfTable T K) where
   -- the gates of a node
-  node_good : (i : ℕ) (h : i < length T.nodes) (o : Operator) → operator_of (node_at T i) ≡ o → OfChildren (λ a. a < length T.nodes) o
+  node_good : (i : ℕ) (h : i < length T.nodes) (o : Operator) → operator_of (node_at T i) ≡ o
+      → OfChildren (λ a. a < length T.nodes) o
       → ((s : ℕ) → s < length T.states → RestNode T K i o s) → Each (Good T K) (node_gates T i o)
   unfolding node_gates
   node_good i h (constant b) e c r = constant_good T wf K rest i h (λ s. b) r

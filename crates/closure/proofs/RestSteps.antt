@@ -1,4 +1,5 @@
--- N at one state and the gates of the steps out of it, where the rules add nothing: the gates are as their inputs say, and so is N.
+-- N at one state and the gates of the steps out of it, where the rules add nothing: the gates are as their inputs
+-- say, and so is N.
 use Prim.Native.Nat.{ℕ, ◌^◌, ◌<◌}
 use mathlib.Core.Path.{◌≡◌, sym, ◌∙◌}
 use mathlib.Core.Bool.{true, false, true≢false}
@@ -8,7 +9,7 @@ use lib.Dec.{eqb}
 use Rattle.sets.specs.Member.{member}
 use Rattle.table.proofs.Bools.{parts_and, not_so}
 use Rattle.rows.specs.declared.row.Row.{Row}
-use Rattle.rows.specs.Row.{known, turned, only, Within, ClearAt}
+use Rattle.rows.specs.Row.{known, turn, only, Within, ClearAt}
 use Rattle.rows.specs.Rules.{unmet, last_left, back_steps, back_end}
 use Rattle.rows.specs.Words.{SmallRow}
 use Rattle.rows.proofs.RowLaws.{without_small, none_empty, and-true, or-true, cond-true, unmet-true}
@@ -16,7 +17,8 @@ use Rattle.closure.proofs.Forced.{one_of_both}
 use Rattle.closure.proofs.OneMember.{same_or, only_this}
 use Rattle.closure.proofs.Says.{edge_row, AndRow}
 
--- At state s, with these steps out of it, known so, these ends and this N, the rules of A add nothing and nothing is known both ways.
+-- At state s, with these steps out of it, known so, these ends and this N, the rules of A add nothing and nothing is
+-- known both ways.
 pub record AheadRest (target : ℕ) (out end over : Row) (s : ℕ) : Type 0 where
   pub small_target : target < 2 ^ 32
   pub small_out : SmallRow out
@@ -56,17 +58,19 @@ module _ {target s : ℕ} {out end over : Row} (r : AheadRest target out end ove
   of_ahead t m e = (or-true (bit_or out.no end.yes) _ t).1 (inr ((cond-true _ target t).1 (e, m)))
 
   -- a true gate with a false end strikes the step, and with a kept step it makes the end true
-  strikes : (t : ℕ) → member target t ≡ true → known gates true t ≡ true → known end false t ≡ true → known out false t ≡ true
+  strikes : (t : ℕ) → member target t ≡ true → known gates true t ≡ true → known end false t ≡ true
+      → known out false t ≡ true
   strikes t m e f = ⊎_elim (λ x. x) (⊎_elim
       (λ g. absurd (r.clear_end t m g f))
       (λ a. r.steps t false ((cond-true _ _ t).1 (a, (and-true target end.no t).1 (m, f)))))
       (why_met t e)
 
   reaches : (t : ℕ) → known gates true t ≡ true → known out true t ≡ true → known end true t ≡ true
-  reaches t e o = ⊎_elim (λ x. absurd (r.clear_out t o x)) (⊎_elim (λ g. g) (λ a. r.ends t true ((cond-true _ _ t).1 (a, o)))) (why_met t e)
+  reaches t e o = ⊎_elim (λ x. absurd (r.clear_out t o x))
+      (⊎_elim (λ g. g) (λ a. r.ends t true ((cond-true _ _ t).1 (a, o)))) (why_met t e)
 
   -- the gate is the opposite of an AND, of the step and of the opposite of the end
-  pub edge_and : (t : ℕ) → member target t ≡ true → AndRow (turned false gates) out (turned false end) t
+  pub edge_and : (t : ℕ) → member target t ≡ true → AndRow (turn false gates) out (turn false end) t
   edge_and t m = record {
     up = λ o e. (and-true out.yes end.no t).1 (o, e);
     left = λ e. ((and-true out.yes end.no t).0 e).0;
@@ -89,7 +93,8 @@ module _ {target s : ℕ} {out end over : Row} (r : AheadRest target out end ove
   not_met : (t : ℕ) → member (unmet target out end) t ≡ true → known gates true t ≡ true → known over true s ≡ true
   not_met t u e =
       let p = (unmet-true target out end r.small_out r.small_end t).0 u in
-      ⊎_elim (λ x. absurd (true≢false (sym x ∙ p.2))) (⊎_elim (λ x. absurd (true≢false (sym x ∙ p.3))) (λ a. a)) (why_met t e)
+      ⊎_elim (λ x. absurd (true≢false (sym x ∙ p.2))) (⊎_elim (λ x. absurd (true≢false (sym x ∙ p.3))) (λ a. a))
+      (why_met t e)
 
   unmet_target : (t : ℕ) → member (unmet target out end) t ≡ true → member target t ≡ true
   unmet_target t u = ((unmet-true target out end r.small_out r.small_end t).0 u).1
@@ -97,7 +102,8 @@ module _ {target s : ℕ} {out end over : Row} (r : AheadRest target out end ove
   -- N is true where all gates are
   pub all_met : ((t : ℕ) → member target t ≡ true → known gates true t ≡ true) → known over true s ≡ true
   all_met each = ⊎_elim (λ a. a)
-      (λ n. r.met (none_empty _ small_unmet (λ t h. not_so _ (λ u. true≢false (sym (not_met t u (each t (unmet_target t u))) ∙ n)))))
+      (λ n. r.met (none_empty _ small_unmet
+      (λ t h. not_so _ (λ u. true≢false (sym (not_met t u (each t (unmet_target t u))) ∙ n)))))
       (one_of_both (known over true s) true)
 
   -- and each gate where N is

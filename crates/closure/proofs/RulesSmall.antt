@@ -9,9 +9,32 @@ use Rattle.table.specs.declared.operator.Family.{Family}
 use Rattle.table.specs.declared.operator.Family.TheVariants.{Release, Until, Eventually, Always}
 use Rattle.rows.specs.declared.row.Row.{Row}
 use Rattle.rows.specs.declared.joined.Joined.{Joined}
-use Rattle.rows.specs.Row.{turned, only}
+use Rattle.rows.specs.Row.{turn, only}
 use Rattle.rows.specs.Words.{SmallRow}
-use Rattle.rows.specs.Rules.{row, unmet, ahead_row, last_left, back_steps, back_end, and_output, and_input, either_row, join_release, join_always, falls, join_falling, turned_joined, join_of, unstruck, kept_row, kept_steps, open_starts, start_kept, start_root, constant_row}
+use Rattle.rows.specs.Rules.{
+  row,
+  unmet,
+  ahead_row,
+  last_left,
+  back_steps,
+  back_end,
+  and_output,
+  and_input,
+  either_row,
+  join_release,
+  join_always,
+  falls,
+  join_falling,
+  turn_joined,
+  join_of,
+  unstruck,
+  kept_row,
+  kept_back,
+  open_starts,
+  start_kept,
+  start_root,
+  constant_row,
+}
 use Rattle.rows.proofs.RowLaws.{without_small, cond_small, set_small, turned_small}
 
 pub none_small : SmallRow (row 0 0)
@@ -22,10 +45,12 @@ constant_small n set h = (h, without_small _ set (set_of-lt 32 _))
 
 -- ---- N
 
-pub ahead_small : (target : ℕ → ℕ) (step : ℕ → Row) (n : ℕ) (end : Row) → n < 33 → SmallRow (ahead_row target step n end)
+pub ahead_small : (target : ℕ → ℕ) (step : ℕ → Row) (n : ℕ) (end : Row) → n < 33
+    → SmallRow (ahead_row target step n end)
 ahead_small target step n end h = (set_small n h _, set_small n h _)
 
-module _ (target : ℕ) (step end : Row) (t f : Bool) (target_small : target < 2 ^ 32) (step_small : SmallRow step) (end-small : SmallRow end) where
+module _ (target : ℕ) (step end : Row) (t f : Bool) (target_small : target < 2 ^ 32) (step_small : SmallRow step)
+    (end-small : SmallRow end) where
   left_small : last_left target step end f < 2 ^ 32
   left_small = cond_small (f && only (unmet target step end)) _ (without_small target _ target_small)
 
@@ -79,7 +104,7 @@ always_small l b N L B H =
       ahead = (or_lt 32 N.yes _ H.0 back.0, or_lt 32 N.no _ H.1 back.1);
     }
 
-turned-joined_small : (e : Bool) (J : Joined) → SmallJoined J → SmallJoined (turned_joined e J)
+turned-joined_small : (e : Bool) (J : Joined) → SmallJoined J → SmallJoined (turn_joined e J)
 turned-joined_small e J small = record {
   level = turned_small e J.level small.level;
   a = turned_small e J.a small.a;
@@ -91,9 +116,11 @@ module _ (fam : Family) (l a b N : Row) (L : SmallRow l) (A : SmallRow a) (B : S
   pub join_small : SmallJoined (join_of fam l a b N)
   join_small = turned-joined_small (falls fam) _ (go fam)
     where
-      go : (fam : Family) → SmallJoined (join_falling fam (turned (falls fam) l) (turned (falls fam) a) (turned (falls fam) b) (turned (falls fam) N))
+      go : (fam : Family) → SmallJoined
+          (join_falling fam (turn (falls fam) l) (turn (falls fam) a) (turn (falls fam) b) (turn (falls fam) N))
       go Release = release_small l a b N L A B H
-      go Until = release_small _ _ _ _ (turned_small false l L) (turned_small false a A) (turned_small false b B) (turned_small false N H)
+      go Until = release_small _ _ _ _ (turned_small false l L) (turned_small false a A) (turned_small false b B)
+          (turned_small false N H)
       go Eventually = always_small _ _ _ (turned_small false l L) (turned_small false b B) (turned_small false N H)
       go Always = always_small l b N L B H
 
@@ -102,14 +129,20 @@ module _ (fam : Family) (l a b N : Row) (L : SmallRow l) (A : SmallRow a) (B : S
 pub kept_small : (s target : ℕ) (step : Row) → SmallRow step → SmallRow (kept_row s target step)
 kept_small s target step h = (or_lt 32 step.yes _ h.0 (set_of-lt 32 _), set_of-lt 32 _)
 
-pub kept_steps_small : (s target : ℕ) (step kept : Row) → target < 2 ^ 32 → SmallRow kept → SmallRow (kept_steps s target step kept)
-kept_steps_small s target step kept h k = (
+pub kept_back_small : (s target : ℕ) (step kept : Row) → target < 2 ^ 32 → SmallRow kept
+    → SmallRow (kept_back s target step kept)
+kept_back_small s target step kept h k = (
   cond_small (member kept.yes s && only (unstruck target step)) _ (without_small target _ h),
   or_lt 32 _ _ (cond_small (member kept.no s) target h) (and_lt 32 target kept.no h k.1),
 )
 
-pub start_kept_small : (initial : ℕ) (kept root : Row) → initial < 2 ^ 32 → SmallRow root → SmallRow (start_kept initial kept root)
-start_kept_small initial kept root h r = (cond_small (only (open_starts initial kept)) _ (without_small initial _ h), and_lt 32 root.no initial r.1 h)
+pub start_kept_small : (initial : ℕ) (kept root : Row) → initial < 2 ^ 32 → SmallRow root
+    → SmallRow (start_kept initial kept root)
+start_kept_small initial kept root h r = (
+  cond_small (only (open_starts initial kept)) _ (without_small initial _ h),
+  and_lt 32 root.no initial r.1 h,
+)
 
-pub start_root_small : (initial : ℕ) (kept : Row) → initial < 2 ^ 32 → SmallRow kept → SmallRow (start_root initial kept)
+pub start_root_small : (initial : ℕ) (kept : Row) → initial < 2 ^ 32 → SmallRow kept
+    → SmallRow (start_root initial kept)
 start_root_small initial kept h k = (and_lt 32 kept.yes initial k.0 h, omega arith)

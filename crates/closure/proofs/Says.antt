@@ -1,5 +1,5 @@
--- What the rows say of each variable of the circuit: a row and a place in it. Step gates, N and G have no row of their own: theirs is worked
--- out from the rows beside them.
+-- What the rows say of each variable of the circuit: a row and a place in it. Step gates, N and G have no row of
+-- their own: theirs is worked out from the rows beside them.
 use Prim.Native.Nat.{ℕ, pred}
 use mathlib.Core.Path.{◌≡◌, sym, ap₂, ◌∙◌}
 use mathlib.Core.Bool.{Bool, true, false, not, cond}
@@ -8,11 +8,22 @@ use lib.Bits.{bit_and, bit_or}
 use Rattle.table.specs.declared.operator.Family.{Family}
 use Rattle.table.specs.Table.{Table, step_at, node_at}
 use Rattle.table.specs.Rows.{target_set}
-use Rattle.ctl.specs.Rule.{Quantifier, Operator, constant, atom, negation, conjunction, disjunction, next, fixpoint, operator_of}
+use Rattle.ctl.specs.Rule.{
+  Quantifier,
+  Operator,
+  constant,
+  atom,
+  negation,
+  conjunction,
+  disjunction,
+  next,
+  fixpoint,
+  operator_of,
+}
 use Rattle.circuit.specs.Logic.{Literal, opposite}
 use Rattle.circuit.specs.Variables.{Var, step, kept, node, edge, ahead, inner, level}
 use Rattle.rows.specs.declared.row.Row.{Row}
-use Rattle.rows.specs.Row.{known, turned, WithinAt}
+use Rattle.rows.specs.Row.{known, turn, WithinAt}
 use Rattle.rows.specs.Rules.{row}
 use Rattle.closure.specs.Dual.{is_every}
 use Rattle.closure.specs.Knowledge.{Knowledge}
@@ -32,8 +43,8 @@ place_of T (level i m s) = s
 
 -- ---- rows that are not stored
 
--- The gates of the steps out of a state, by their ends: true where the step is struck, where its end is true, or where N of the state is;
--- false where the step is kept and its end is false.
+-- The gates of the steps out of a state, by their ends: true where the step is struck, where its end is true, or
+-- where N of the state is; false where the step is kept and its end is false.
 abbrev pub edge_row : ℕ → Row → Row → Bool → Row
 edge_row target out end t = row (bit_or (bit_or out.no end.yes) (cond t target 0)) (bit_and out.yes end.no)
 
@@ -63,8 +74,8 @@ pub record AndRow (g x y : Row) (s : ℕ) : Type 0 where
 module _ (T : Table) (K : Knowledge) where
   -- for A or for E, where N and the ends are known so
   abbrev pub edges_over : Quantifier → Row → Row → ℕ → Row
-  edges_over q over end s = turned (is_every q)
-      (edge_row (target_set T.steps s) (K.steps s) (turned (is_every q) end) (known (turned (is_every q) over) true s))
+  edges_over q over end s = turn (is_every q)
+      (edge_row (target_set T.steps s) (K.steps s) (turn (is_every q) end) (known (turn (is_every q) over) true s))
 
   -- N of level m of a fixed-point node
   abbrev pub ahead_level : Family → Quantifier → ℕ → ℕ → ℕ → ℕ → Row
@@ -104,7 +115,7 @@ module _ (T : Table) (K : Knowledge) where
 
   -- the row of a literal, in which true means that the literal is, and its place
   pub record Is (l : Literal Var) (r : Row) (s : ℕ) : Type 0 where
-    pub row_is : turned l.sign (row_of l.var) ≡ r
+    pub row_is : turn l.sign (row_of l.var) ≡ r
     pub place_is : place_of T l.var ≡ s
 
   module _ {l : Literal Var} {r : Row} {s : ℕ} (i : Is l r s) where
@@ -130,14 +141,16 @@ module _ (T : Table) (K : Knowledge) where
   -- ---- gates of one and of two inputs, by their rows
 
   -- one input, with the same row at the same place
-  pub one_row : {h x : Literal Var} {g p : Row} {s : ℕ} → Is h g s → Is x p s → WithinAt s p g → WithinAt s g p → AndRules Says h (x ∷ [])
+  pub one_row : {h x : Literal Var} {g p : Row} {s : ℕ} → Is h g s → Is x p s → WithinAt s p g → WithinAt s g p
+      → AndRules Says h (x ∷ [])
   one_row {h} {x} ih ix up down = one_rules Says h x
       (λ e. of_row ih (up true (to_row ix e)))
       (λ e. of_row ix (down true (to_row ih e)))
       (λ e. of_opposite ih (up false (to_opposite ix e)))
       (λ e. of_opposite ix (down false (to_opposite ih e)))
 
-  pub two_rows : {h x y : Literal Var} {g p q : Row} {s : ℕ} → Is h g s → Is x p s → Is y q s → ¬ (x ≡ y) → AndRow g p q s
+  pub two_rows : {h x y : Literal Var} {g p q : Row} {s : ℕ} → Is h g s → Is x p s → Is y q s → ¬ (x ≡ y)
+      → AndRow g p q s
       → AndRules Says h (x ∷ y ∷ [])
   two_rows {h} {x} {y} ih ix iy apart r = two_rules Says h x y apart
       (λ e f. of_row ih (r.up (to_row ix e) (to_row iy f)))

@@ -12,11 +12,11 @@ use Rattle.table.specs.Table.{Table, step_at}
 use Rattle.table.specs.Facts.{Wellformed}
 use Rattle.table.proofs.Bools.{not_so}
 use Rattle.circuit.specs.Logic.{Literal}
-use Rattle.circuit.specs.Variables.{Var, step}
+use Rattle.circuit.specs.Variables.{Var, step, literal}
 use Rattle.rows.specs.declared.row.Row.{Row}
-use Rattle.rows.specs.Row.{known, turned, only}
+use Rattle.rows.specs.Row.{known, turn, only}
 use Rattle.rows.proofs.RowLaws.{and-true, or-true, cond-true, only-true}
-use Rattle.closure.specs.Inside.{literal, RowIn, StepsIn}
+use Rattle.closure.specs.KnowledgeIn.{RowIn, StepsIn}
 use Rattle.closure.proofs.Ends.{same_ends}
 
 -- each member of the set has P
@@ -32,7 +32,8 @@ set_each x p f s m = f s (p s m)
 pub set-or : {P : ℕ → Type 0} (x y : ℕ) → SetIn P x → SetIn P y → SetIn P (bit_or x y)
 set-or x y p q s m = ⊎_elim (p s) (q s) ((or-true x y s).0 m)
 
-pub set-and : {P Q R : ℕ → Type 0} (x y : ℕ) → SetIn P x → SetIn Q y → ((s : ℕ) → P s → Q s → R s) → SetIn R (bit_and x y)
+pub set-and : {P Q R : ℕ → Type 0} (x y : ℕ) → SetIn P x → SetIn Q y → ((s : ℕ) → P s → Q s → R s)
+    → SetIn R (bit_and x y)
 set-and x y p q r s m = let k = (and-true x y s).0 m in r s (p s k.0) (q s k.1)
 
 pub set-cond : {P : ℕ → Type 0} (b : Bool) (x : ℕ) → (b ≡ true → SetIn P x) → SetIn P (cond b x 0)
@@ -52,15 +53,16 @@ module _ (T : Table) (S : Literal Var → Type 0) where
   row_in v r p q false = q
 
   -- so of its dual: what is true there is the other way round
-  pub turned_in : (b : Bool) (v : ℕ → Var) (r : Row) → SetIn (At b v) r.yes → SetIn (At (not b) v) r.no → RowIn T S v (turned b r)
+  pub turned_in : (b : Bool) (v : ℕ → Var) (r : Row) → SetIn (At b v) r.yes → SetIn (At (not b) v) r.no
+      → RowIn T S v (turn b r)
   turned_in true v r p q = row_in v r p q
-  turned_in false v r p q = row_in v (turned false r) q p
+  turned_in false v r p q = row_in v (turn false r) q p
 
-  pub in_turned : (b : Bool) (v : ℕ → Var) (r : Row) → RowIn T S v r → SetIn (At b v) (turned b r).yes
+  pub in_turned : (b : Bool) (v : ℕ → Var) (r : Row) → RowIn T S v r → SetIn (At b v) (turn b r).yes
   in_turned true v r p = p true
   in_turned false v r p = p false
 
-  pub in_turned-not : (b : Bool) (v : ℕ → Var) (r : Row) → RowIn T S v r → SetIn (At (not b) v) (turned b r).no
+  pub in_turned-not : (b : Bool) (v : ℕ → Var) (r : Row) → RowIn T S v r → SetIn (At (not b) v) (turn b r).no
   in_turned-not true v r p = p false
   in_turned-not false v r p = p true
 
@@ -69,14 +71,16 @@ module _ (T : Table) (S : Literal Var → Type 0) where
 module _ (T : Table) (S : Literal Var → Type 0) where
   -- a step from s to t is in S with this sign
   abbrev pub StepAt : Bool → ℕ → ℕ → Type 0
-  StepAt sign s t = (j : ℕ) × (j < length T.steps) × ((step_at T j).from ≡ s) × ((step_at T j).to ≡ t) × S (literal sign (step j))
+  StepAt sign s t = (j : ℕ) × (j < length T.steps) × ((step_at T j).from ≡ s) × ((step_at T j).to ≡ t)
+      × S (literal sign (step j))
 
   pub steps_in : (s : ℕ) (r : Row) → SetIn (StepAt true s) r.yes → SetIn (StepAt false s) r.no → StepsIn T S s r
   steps_in s r p q true = p
   steps_in s r p q false = q
 
   -- what is known of a step by its ends is of that step
-  pub step_known_lem : Wellformed T → (s : ℕ) (r : Row) → StepsIn T S s r → (j : ℕ) → j < length T.steps → (step_at T j).from ≡ s → (sign : Bool)
+  pub step_known_lem : Wellformed T → (s : ℕ) (r : Row) → StepsIn T S s r → (j : ℕ) → j < length T.steps
+      → (step_at T j).from ≡ s → (sign : Bool)
       → known r sign (step_at T j).to ≡ true → S (literal sign (step j))
   step_known_lem wf s r p j h f sign m =
       let k = p sign (step_at T j).to m in

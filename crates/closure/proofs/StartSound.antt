@@ -1,4 +1,5 @@
--- The initial states: what the rows of K and of the root add to each other there is forced, and where none of them may be kept the set fails.
+-- The initial states: what the rows of K and of the root add to each other there is forced, and where none of them
+-- may be kept the set fails.
 use Prim.Native.Nat.{ℕ}
 use mathlib.Core.Path.{◌≡◌, refl, sym, ap, ◌∙◌}
 use mathlib.Core.Bool.{Bool, true, false, false≢true}
@@ -21,13 +22,14 @@ use Rattle.rows.specs.Words.{SmallRow}
 use Rattle.rows.specs.Rules.{open_starts, start_kept, start_root}
 use Rattle.rows.proofs.RowLaws.{without-true, only-true, and-true, without_small}
 use Rattle.closure.specs.Rest.{initial_set}
-use Rattle.closure.specs.Inside.{RowIn, Clash}
+use Rattle.closure.specs.KnowledgeIn.{RowIn, Clash}
 use Rattle.closure.proofs.InitialSet.{initial_true, initial_small}
-use Rattle.closure.proofs.Forced.{Closed}
+use Rattle.closure.proofs.Forced.{ClauseClosed}
 use Rattle.closure.proofs.SetsIn.{set-cond, row_in}
 use Rattle.closure.proofs.KeptSound.{then_in, unless_in}
 
-module _ (T : Table) (wf : Wellformed T) (S : Literal Var → Type 0) (closed : (C : Clause) → Memᴰ C (clauses T) → Closed S C) where
+module _ (T : Table) (wf : Wellformed T) (S : Literal Var → Type 0) (closed : (C : Clause) → Memᴰ C (clauses T)
+    → ClauseClosed S C) where
   -- the only initial state that may yet be kept
   last_start : (s : ℕ) → Initial T s → ((t : ℕ) → Initial T t → ¬ (t ≡ s) → S (neg (kept t))) → S (pos (kept s))
   last_start s i others = closed _ (start_in T) (pos (kept s)) (Memᴰ.map (λ s. pos (kept s)) ((in_initials T s).1 i))
@@ -44,10 +46,13 @@ module _ (T : Table) (wf : Wellformed T) (S : Literal Var → Type 0) (closed : 
 
         go : (b : Bool) → member k.no s ≡ b → S (neg (kept s))
         go true f = (in-k false s f).1
-        go false f = absurd (false≢true (sym none ∙ (without-true (initial_set T) k.no s small.1).1 (member_inside 32 _ s (initial_small T wf) start, start, f)))
+        go false f = absurd (false≢true
+            (sym none ∙ (without-true (initial_set T) k.no s small.1).1
+            (member_inside 32 _ s (initial_small T wf) start, start, f)))
 
     -- the last initial state left is kept, and one where the root is false is not
-    pub start_kept_in : (r : Row) → RowIn T S (value T (root_index T)) r → RowIn T S kept (start_kept (initial_set T) k r)
+    pub start_kept_in : (r : Row) → RowIn T S (value T (root_index T)) r
+        → RowIn T S kept (start_kept (initial_set T) k r)
     start_kept_in r in-r = row_in T S kept _
         (set-cond _ left (λ b s m.
         let i = (initial_true T s).0 ((without-true (initial_set T) k.no s small.1).0 m).1 in
@@ -60,9 +65,11 @@ module _ (T : Table) (wf : Wellformed T) (S : Literal Var → Type 0) (closed : 
         left : ℕ
         left = open_starts (initial_set T) k
 
-        not_left : only left ≡ true → (s : ℕ) → member left s ≡ true → (t : ℕ) → ¬ (t ≡ s) → (b : Bool) → member left t ≡ b → member left t ≡ false
+        not_left : only left ≡ true → (s : ℕ) → member left s ≡ true → (t : ℕ) → ¬ (t ≡ s) → (b : Bool)
+            → member left t ≡ b → member left t ≡ false
         not_left one s m t other true e =
-            let c = (only-true left (without_small _ _ (initial_small T wf))).0 one in absurd (other (c.2 t e ∙ sym (c.2 s m)))
+            let c = (only-true left (without_small _ _ (initial_small T wf))).0 one in absurd
+            (other (c.2 t e ∙ sym (c.2 s m)))
         not_left one s m t other false e = e
 
     -- a kept initial state has the root
@@ -77,6 +84,7 @@ module _ (T : Table) (wf : Wellformed T) (S : Literal Var → Type 0) (closed : 
     -- where no initial state may be kept, K of one of them is in the set both ways
     pub start_clash : open_starts (initial_set T) k ≡ 0 → Clash T S
     start_clash e =
-        let none : (s : ℕ) → member (open_starts (initial_set T) k) s ≡ false = λ s. ap (λ (x : ℕ). member x s) e ∙ member-zero s in
+        let none : (s : ℕ) → member (open_starts (initial_set T) k) s ≡ false =
+        λ s. ap (λ (x : ℕ). member x s) e ∙ member-zero s in
         let i = wf.some_initial in
         (kept i.0, last_start i.0 (i.1, i.2) (λ t j other. shut t j (none t)), shut i.0 (i.1, i.2) (none i.0))

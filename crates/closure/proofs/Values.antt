@@ -1,16 +1,16 @@
--- The variable of X of a node: its row is the node's, also where it is that of the last level, and it is no other kind of variable.
+-- The variable of X of a node: its row is the node's, also where it is that of the last level, and it is no other
+-- kind of variable.
 use Prim.Native.Nat.{ℕ, ◌<◌}
 use mathlib.Core.Path.{◌≡◌, refl, sym, ap, ◌∙◌}
 use mathlib.Core.Bool.{Bool, true, false, true≢false}
 use lib.ListN.{length}
 use Rattle.table.specs.Table.{Table}
-use Rattle.circuit.specs.Variables.{Var, step, kept, node, edge, ahead, inner, level, value}
+use Rattle.circuit.specs.Variables.{Var, step, kept, node, edge, ahead, inner, level, value, literal}
 use Rattle.circuit.proofs.Distinct.{node_of}
 use Rattle.circuit.proofs.Value.{value_cases}
-use Rattle.rows.specs.Row.{turned}
+use Rattle.rows.specs.Row.{turn}
 use Rattle.closure.specs.Knowledge.{Knowledge}
 use Rattle.closure.specs.Rest.{Rest}
-use Rattle.closure.specs.Inside.{literal}
 use Rattle.closure.proofs.Says.{row_of, place_of, Is}
 
 -- whether a variable may be that of X
@@ -46,8 +46,10 @@ module _ (T : Table) where
   module _ (K : Knowledge) where
     pub value_row : Rest T K → (i : ℕ) → i < length T.nodes → (s : ℕ) → row_of T K (value T i s) ≡ K.nodes i
     unfolding row_of
-    value_row rest i h s = value_cases T (λ v. row_of T K v ≡ K.nodes i) i s refl (λ fam q a b e. rest.last i fam q a b h e)
+    value_row rest i h s =
+        value_cases T (λ v. row_of T K v ≡ K.nodes i) i s refl (λ fam q a b e. rest.last i fam q a b h e)
 
     -- a literal of X has the node's row, or its dual
-    pub value_is : Rest T K → (i : ℕ) → i < length T.nodes → (sign : Bool) (s : ℕ) → Is T K (literal sign (value T i s)) (turned sign (K.nodes i)) s
-    value_is rest i h sign s = record { row_is = ap (turned sign) (value_row rest i h s); place_is = value_place i s }
+    pub value_is : Rest T K → (i : ℕ) → i < length T.nodes → (sign : Bool) (s : ℕ)
+        → Is T K (literal sign (value T i s)) (turn sign (K.nodes i)) s
+    value_is rest i h sign s = record { row_is = ap (turn sign) (value_row rest i h s); place_is = value_place i s }

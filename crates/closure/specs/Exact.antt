@@ -4,8 +4,9 @@ use Rattle.std.specs.Prelude.{ℕ, ◌≤◌, ◌<◌, ◌≡◌, Bool, true, �
 use mathlib.Core.List.{List, Memᴰ}
 use Rattle.circuit.specs.Logic.{Literal, opposite}
 use Rattle.circuit.specs.Variables.{Var}
-use Rattle.closure.specs.Closure.{Forced, Fails, known, Marks, mark_at, clash, marked, closure, settled_below}
-use Rattle.closure.specs.Given.{Given, Within, Inside, Consistent}
+use Rattle.closure.specs.Closure.{Forced, Fails}
+use Rattle.closure.specs.Computed.{known, Marks, mark_at, clash, marked, closure, settled_below}
+use Rattle.closure.specs.Given.{Given, VariablesBelow, ClausesBelow, Consistent}
 use Rattle.closure.specs.Settled.{CountsSettled}
 
 -- Q has each literal of a clause all of whose other literals it contradicts
@@ -42,5 +43,6 @@ pub record ComputedIsForced (size : ℕ) (F : List (List (Literal ℕ))) (P : Li
 
 abbrev pub ComputedIsTheForced : Type 0
 ComputedIsTheForced =
-    (size : ℕ) (F : List (List (Literal ℕ))) (P : List (Literal ℕ)) → Inside size F → Consistent P → Within size P
+    (size : ℕ) (F : List (List (Literal ℕ))) (P : List (Literal ℕ)) → ClausesBelow size F → Consistent P
+    → VariablesBelow size P
     → ComputedIsForced size F P

@@ -8,12 +8,12 @@ abbrev pub Given : List (Literal ℕ) → Literal ℕ → Type 0
 Given P l = Memᴰ l P
 
 -- the literals are of variables below size
-abbrev pub Within : ℕ → List (Literal ℕ) → Type 0
-Within size P = (l : Literal ℕ) → Memᴰ l P → l.var < size
+abbrev pub VariablesBelow : ℕ → List (Literal ℕ) → Type 0
+VariablesBelow size P = (l : Literal ℕ) → Memᴰ l P → l.var < size
 
 -- the literals of each clause are of variables below size
-abbrev pub Inside : ℕ → List (List (Literal ℕ)) → Type 0
-Inside size F = (C : List (Literal ℕ)) → Memᴰ C F → Within size C
+abbrev pub ClausesBelow : ℕ → List (List (Literal ℕ)) → Type 0
+ClausesBelow size F = (C : List (Literal ℕ)) → Memᴰ C F → VariablesBelow size C
 
 -- no two of the literals contradict each other
 abbrev pub Consistent : List (Literal ℕ) → Type 0

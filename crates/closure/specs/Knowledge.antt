@@ -1,9 +1,10 @@
--- What the memory knows of the variables of a table. The words have the rows of the levels 1 to n - 1 of each fixed-point node, one node after
--- the other; level 0 is b's row, and level n the node's own.
+-- What the memory knows of the variables of a table. The words have the rows of the levels 1 to n - 1 of each
+-- fixed-point node, one node after the other; level 0 is b's row, and level n the node's own.
 use Rattle.std.specs.Prelude.{ℕ, ◌+◌, ◌*◌, ◌-◌, ◌≤◌, ◌<◌, ◌^◌, ◌≡◌, cond, List, [], ◌∷◌, eqb, length, get_or, take}
 use Rattle.table.specs.Table.{Table, node_at}
 use Rattle.table.specs.declared.record.Node.{Node}
 use Rattle.ctl.specs.Rule.{Operator, constant, atom, negation, conjunction, disjunction, next, fixpoint, operator_of}
+use Rattle.rows.specs.declared.row.TheConstants.{ROW_WORDS}
 use Rattle.rows.specs.declared.row.Row.{Row}
 use Rattle.rows.specs.Words.{row_at, SmallRow, step_place}
 use Rattle.propagate.specs.Memory.{Memory, node_place, kept_place}
@@ -70,7 +71,7 @@ knowledge T M = record {
 
 -- the memory has the size that the rows need, and its entries are words
 pub record Sized (T : Table) (M : Memory) : Type 0 where
-  pub rows_size : length M.rows ≡ 130
+  pub rows_size : length M.rows ≡ ROW_WORDS
   pub words_size : level_total T ≤ length M.words
   pub small_rows : (k : ℕ) → get_or M.rows k 0 < 2 ^ 32
   pub small_words : (k : ℕ) → get_or M.words k 0 < 2 ^ 32

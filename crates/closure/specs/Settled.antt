@@ -1,4 +1,4 @@
--- 02, A5: "how many step variables it settles, and 0 where it fails", of the closure as 01 says it.
+-- How many steps a closure settles, and 0 where it fails. Specification, "Closure".
 use Rattle.std.specs.Prelude.{ℕ, ◌<◌, ◌≡◌, Bool, true, ◌↔◌, length}
 use mathlib.Core.List.{List, Memᴰ}
 use Rattle.sets.specs.Member.{count_of}

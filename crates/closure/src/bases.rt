@@ -4,18 +4,18 @@ ghost use Rattle.table.specs.Table.{table_of};
 ghost use Rattle.closure.specs.Knowledge.{level_size};
 ghost use Rattle.closure.specs.Bases.{AreBases};
 
-use table::{Accepted, Operator};
+use table::{Accepted, MOST_NODES, MOST_STATES, Operator};
 
-// Where those of each node begin, and how many there are in all.
+/// Where those of each node begin, and how many there are in all.
 #[derive(Clone, Copy)]
 pub struct Bases {
-    pub at: [usize; 32],
+    pub at: [usize; MOST_NODES],
     pub total: usize,
 }
 
 // How many words a node takes, with n states.
 fn level_size(n: usize, operator: Operator) -> usize
-    requires { (1 ≤ n) × (n ≤ 32) }
+    requires { (1 ≤ n) × (n ≤ MOST_STATES) }
     ensures { result ≡ level_size n operator }
 {
     match operator {
@@ -24,14 +24,14 @@ fn level_size(n: usize, operator: Operator) -> usize
     }
 }
 
-// A node past the last reads as zeros and takes no words, so that every place has a base.
+/// A node past the last reads as zeros and takes no words, so that every place has a base.
 pub fn level_bases(table: &Accepted<'_>) -> Bases
     ensures { AreBases (table_of table.now.bytes.now) result }
 {
     let n = table.state_count();
-    let mut at = [0usize; 32];
+    let mut at = [0usize; MOST_NODES];
     let mut total = 0;
-    for i in 0..32 {
+    for i in 0..MOST_NODES {
         at[i] = total;
         total += level_size(n, Operator::from(table.node(i)));
     }

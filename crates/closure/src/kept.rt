@@ -6,10 +6,12 @@ ghost use Rattle.propagate.specs.Memory.{memory, stepped};
 ghost use Rattle.propagate.specs.Marked.{RowsMarked};
 
 use propagate::{Graph, KEPT_PLACE, add_kept, add_node, add_step, node_row};
-use rows::{Report, Row, both, kept_row, kept_steps, last_left, row_at, step_row};
+use rows::{ROW_WORDS, Report, Row, both, kept_back, kept_row, last_left, row_at, step_row};
+use table::{MOST_NODES, MOST_STATES};
 
-pub fn kept_step(graph: &Graph, rows: &mut [u32; 130], looks: &mut [u32], s: usize) -> Report
-    requires s_below { s < 32 }
+/// K of s with the steps out of s, forward and back.
+pub fn kept_step(graph: &Graph, rows: &mut [u32; ROW_WORDS], looks: &mut [u32], s: usize) -> Report
+    requires s_below { s < MOST_STATES }
     requires room { words_end graph.now.readers ≤ length looks.old }
     ensures value { (w : List ℕ) → stepped rows.new w result ≡ kept_step graph.now.targets s (memory rows.old w) }
     ensures marked { RowsMarked graph.now.readers looks.old looks.new rows.old rows.new }
@@ -21,19 +23,19 @@ pub fn kept_step(graph: &Graph, rows: &mut [u32; 130], looks: &mut [u32], s: usi
     let first = add_kept(graph, rows, looks, kept_row(s, target, x));
     both(
         first,
-        add_step(graph, rows, looks, s, kept_steps(s, target, x, k)),
+        add_step(graph, rows, looks, s, kept_back(s, target, x, k)),
     )
 }
 
-// An initial state is kept, and the root holds at each that is.
+/// An initial state is kept, and the root holds at each that is.
 pub fn start_step(
     graph: &Graph,
-    rows: &mut [u32; 130],
+    rows: &mut [u32; ROW_WORDS],
     looks: &mut [u32],
     initial: u32,
     root: usize,
 ) -> Report
-    requires root_below { root < 32 }
+    requires root_below { root < MOST_NODES }
     requires room { words_end graph.now.readers ≤ length looks.old }
     ensures value { (w : List ℕ) → stepped rows.new w result ≡ start_step initial root (memory rows.old w) }
     ensures marked { RowsMarked graph.now.readers looks.old looks.new rows.old rows.new }

@@ -3,11 +3,11 @@ ghost use Rattle.std.specs.Prelude.{◌≡◌};
 ghost use Rattle.table.specs.Table.{table_of};
 ghost use Rattle.closure.specs.Closes.{rows_settled};
 
-use rows::is_settled;
+use rows::{ROW_WORDS, is_settled};
 use table::Accepted;
 
-// Those that are known kept, and those that are known struck.
-pub fn settled_steps(table: &Accepted<'_>, rows: &[u32; 130]) -> u32
+/// Those that are known kept, and those that are known struck.
+pub fn settled_steps(table: &Accepted<'_>, rows: &[u32; ROW_WORDS]) -> u32
     ensures { result ≡ rows_settled (table_of table.now.bytes.now) rows.now }
 {
     let mut count = 0;

@@ -8,9 +8,20 @@ use lib.ListN.{length, get_or, take, length-append}
 use lib.Seq.{take-length, take-take, take-append_seam, get_or-append_seam, get_or-take}
 use Rattle.table.specs.declared.record.Node.{Node}
 use Rattle.table.specs.Table.{Table, zero_node, node_at}
-use Rattle.table.specs.Accept.{shape_of}
+use Rattle.table.specs.Shape.{shape_of}
 use Rattle.table.specs.Facts.{Wellformed, FieldsFit}
-use Rattle.ctl.specs.Rule.{Operator, constant, atom, negation, conjunction, disjunction, next, fixpoint, operator_of, bottom_up}
+use Rattle.ctl.specs.Rule.{
+  Operator,
+  constant,
+  atom,
+  negation,
+  conjunction,
+  disjunction,
+  next,
+  fixpoint,
+  operator_of,
+  bottom_up,
+}
 
 -- ---- the values, one behind the other
 
@@ -20,7 +31,8 @@ module _ {A : Type 0} (value : Operator → (ℕ → A) → A) (none : A) where
   more done x = done ++ (value (operator_of x) (λ k. get_or done k none) ∷ [])
 
   -- a value for each node, behind those that are done
-  pub length_onto : (done : List A) (nodes : List Node) → length (bottom_up value none done nodes) ≡ length done + length nodes
+  pub length_onto : (done : List A) (nodes : List Node)
+      → length (bottom_up value none done nodes) ≡ length done + length nodes
   unfolding bottom_up
   length_onto done [] = omega arith
   length_onto done (x ∷ xs) = length_onto (more done x) xs ∙ rw length-append (omega arith)
@@ -46,7 +58,8 @@ module _ {A : Type 0} (value : Operator → (ℕ → A) → A) (none : A) where
       ∙ get_or-append_seam done _ [] none
 
   value_first : (done : List A) (x : Node) (xs : List Node) (i : ℕ) → i ≡ length done
-      → get_or (bottom_up value none done (x ∷ xs)) i none ≡ value (operator_of x) (λ k. get_or (take i (bottom_up value none done (x ∷ xs))) k none)
+      → get_or (bottom_up value none done (x ∷ xs)) i none
+      ≡ value (operator_of x) (λ k. get_or (take i (bottom_up value none done (x ∷ xs))) k none)
   value_first done x xs i here = rw (here, take_done) (value_here done x xs)
 
   -- the value k places behind those that are done is made of the values before it
@@ -56,7 +69,8 @@ module _ {A : Type 0} (value : Operator → (ℕ → A) → A) (none : A) where
   unfolding bottom_up
   value_onto done [] k h i e = absurd (not-suc-le-zero h)
   value_onto done (x ∷ xs) zero h i e = value_first done x xs i (omega arith)
-  value_onto done (x ∷ xs) (suc k) h i e = value_onto (more done x) xs k (le_of_suc-le-suc h) i (rw length-append (omega arith))
+  value_onto done (x ∷ xs) (suc k) h i e =
+      value_onto (more done x) xs k (le_of_suc-le-suc h) i (rw length-append (omega arith))
 
   -- there are as many values as nodes
   pub bottom_up-length : (nodes : List Node) → length (bottom_up value none [] nodes) ≡ length nodes
@@ -99,7 +113,8 @@ of-below i (next q a) h all = all a h
 of-below i (fixpoint f q a b) h all = (all a h.0, all b h.1)
 
 -- fields that fit give children below i: kinds 0 to 15, and every later one
-fields_below : (p i kind a b : ℕ) → FieldsFit (shape_of kind) p i a b → Below i (operator_of (record { kind = kind; a = a; b = b }))
+fields_below : (p i kind a b : ℕ) → FieldsFit (shape_of kind) p i a b
+    → Below i (operator_of (record { kind = kind; a = a; b = b }))
 fields_below p i zero a b e = tt
 fields_below p i (suc zero) a b e = tt
 fields_below p i (suc (suc zero)) a b e = tt
@@ -114,13 +129,17 @@ fields_below p i (suc (suc (suc (suc (suc (suc (suc (suc (suc (suc zero)))))))))
 fields_below p i (suc (suc (suc (suc (suc (suc (suc (suc (suc (suc (suc zero))))))))))) a b e = e
 fields_below p i (suc (suc (suc (suc (suc (suc (suc (suc (suc (suc (suc (suc zero)))))))))))) a b e = (e.0, e.0)
 fields_below p i (suc (suc (suc (suc (suc (suc (suc (suc (suc (suc (suc (suc (suc zero))))))))))))) a b e = (e.0, e.0)
-fields_below p i (suc (suc (suc (suc (suc (suc (suc (suc (suc (suc (suc (suc (suc (suc zero)))))))))))))) a b e = (e.0, e.0)
-fields_below p i (suc (suc (suc (suc (suc (suc (suc (suc (suc (suc (suc (suc (suc (suc (suc zero))))))))))))))) a b e = (e.0, e.0)
-fields_below p i (suc (suc (suc (suc (suc (suc (suc (suc (suc (suc (suc (suc (suc (suc (suc (suc kind)))))))))))))))) a b e = tt
+fields_below p i (suc (suc (suc (suc (suc (suc (suc (suc (suc (suc (suc (suc (suc (suc zero)))))))))))))) a b e =
+    (e.0, e.0)
+fields_below p i (suc (suc (suc (suc (suc (suc (suc (suc (suc (suc (suc (suc (suc (suc (suc zero))))))))))))))) a b e =
+    (e.0, e.0)
+fields_below p i (suc (suc (suc (suc (suc (suc (suc (suc (suc (suc (suc (suc (suc (suc (suc (suc kind))))))))))))))))
+    a b e = tt
 
 -- the children of a node of a table have lower numbers than it
 pub children_below : (T : Table) → Wellformed T → (i : ℕ) → i < length T.nodes → Below i (operator_of (node_at T i))
-children_below T wf i h = fields_below T.props i (node_at T i).kind (node_at T i).a (node_at T i).b (wf.each_node_fits i h)
+children_below T wf i h =
+    fields_below T.props i (node_at T i).kind (node_at T i).a (node_at T i).b (wf.each_node_fits i h)
 
 -- what holds of each number below a node holds of the node's children
 pub of-children {ℓ} : (T : Table) → Wellformed T → {P : ℕ → Type ℓ} (i : ℕ) → i < length T.nodes
@@ -129,7 +148,8 @@ of-children T wf i h = of-below i (operator_of (node_at T i)) (children_below T 
 
 -- what holds of a node whenever it holds of the node's children holds of each node
 pub node-induction {ℓ} : (T : Table) → Wellformed T → (P : ℕ → Type ℓ)
-    → ((i : ℕ) → i < length T.nodes → OfChildren P (operator_of (node_at T i)) → P i) → (i : ℕ) → i < length T.nodes → P i
+    → ((i : ℕ) → i < length T.nodes → OfChildren P (operator_of (node_at T i)) → P i) → (i : ℕ) → i < length T.nodes
+    → P i
 node-induction T wf P step i h = go (suc i) i (omega arith) h
   where
     -- the nodes below n
@@ -146,7 +166,8 @@ Reads {A} value = (o : Operator) (f g : ℕ → A) → OfChildren (λ k. f k ≡
 -- the value of node i is made of the values of its children
 pub bottom_up_children : {A : Type 0} (value : Operator → (ℕ → A) → A) (none : A) → Reads value
     → (T : Table) → Wellformed T → (i : ℕ) → i < length T.nodes
-    → get_or (bottom_up value none [] T.nodes) i none ≡ value (operator_of (node_at T i)) (λ k. get_or (bottom_up value none [] T.nodes) k none)
+    → get_or (bottom_up value none [] T.nodes) i none
+    ≡ value (operator_of (node_at T i)) (λ k. get_or (bottom_up value none [] T.nodes) k none)
 bottom_up_children value none reads T wf i h =
     bottom_up_at value none T.nodes i h
     ∙ reads (operator_of (node_at T i)) _ _ (of-children T wf i h (before (bottom_up value none [] T.nodes) none i))

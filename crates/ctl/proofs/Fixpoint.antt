@@ -1,5 +1,6 @@
--- Level n of a fixed-point kind is what the kind says of the fullpaths. Shown once, of release (Paths.antt); G is release with a false everywhere, and
--- U and F are duals of V and G: their levels are the opposites of those of the dual family, with the other quantifier, of the opposite sets.
+-- Level n of a fixed-point kind is what the kind says of the fullpaths. Shown once, of release (Paths.antt); G is
+-- release with a false everywhere, and U and F are duals of V and G: their levels are the opposites of those of the
+-- dual family, with the other quantifier, of the opposite sets.
 use Prim.Native.Nat.{ℕ, zero, suc, ◌<◌}
 use mathlib.Core.Path.{◌≡◌, refl, sym, ap, ap₂, ◌∙◌}
 use mathlib.Core.Bool.{Bool, true, false, not, ◌&&◌, ◌||◌, true≢false, false≢true, not-not}
@@ -12,7 +13,8 @@ use Rattle.table.specs.declared.operator.Family.TheVariants.{Release, Until, Eve
 use Rattle.table.specs.Accept.{all, any}
 use Rattle.ctl.specs.Meaning.{Fullpath}
 use Rattle.ctl.specs.Rule.{Quantifier, every, some}
-use Rattle.ctl.specs.Levels.{has, tabulate, iterate, next_in, joined, level, levels}
+use Rattle.ctl.specs.Range.{tabulate}
+use Rattle.ctl.specs.Levels.{has, iterate, next_in, joined, level, levels}
 use Rattle.ctl.specs.OnPaths.{OnPaths, Along}
 use Rattle.ctl.proofs.Tabulate.{length_tabulate, get_d_tabulate}
 use Rattle.ctl.proofs.Stable.{level_mark}
@@ -34,13 +36,15 @@ apart every f next s a b all p = apart_along f a b p.0 (all p.0 p.1) p.2
 apart some f next s a b p all = apart_along f a b p.0 p.2 (all p.0 p.1)
 
 -- what follows along a fullpath follows along every one, or along some
-on_each : (q : Quantifier) (next : ℕ → ℕ → Type 0) (s : ℕ) {P Q : (ℕ → ℕ) → Type 0} → ((π : ℕ → ℕ) → Fullpath next s π → P π → Q π)
+on_each : (q : Quantifier) (next : ℕ → ℕ → Type 0) (s : ℕ) {P Q : (ℕ → ℕ) → Type 0}
+    → ((π : ℕ → ℕ) → Fullpath next s π → P π → Q π)
     → OnPaths q next s P → OnPaths q next s Q
 on_each every next s f all = λ π path. f π path (all π path)
 on_each some next s f p = (p.0, p.1, f p.0 p.1 p.2)
 
 -- AX of the opposite set is the opposite of EX, at a state with a next state
-all-not : (X Y : List Bool) (ts : List ℕ) → ((u : ℕ) → Memᴰ u ts → has Y u ≡ not (has X u)) → all (has Y) ts ≡ not (any (has X) ts)
+all-not : (X Y : List Bool) (ts : List ℕ) → ((u : ℕ) → Memᴰ u ts → has Y u ≡ not (has X u))
+    → all (has Y) ts ≡ not (any (has X) ts)
 unfolding all any
 all-not X Y [] same = refl
 all-not X Y (t ∷ ts) same =
@@ -51,11 +55,14 @@ all-not X Y (t ∷ ts) same =
     go false y = refl
 
 -- and the other way round
-any-not : (X Y : List Bool) (ts : List ℕ) → ((u : ℕ) → Memᴰ u ts → has Y u ≡ not (has X u)) → any (has Y) ts ≡ not (all (has X) ts)
+any-not : (X Y : List Bool) (ts : List ℕ) → ((u : ℕ) → Memᴰ u ts → has Y u ≡ not (has X u))
+    → any (has Y) ts ≡ not (all (has X) ts)
 any-not X Y ts same =
-    sym (not-not (any (has Y) ts)) ∙ ap not (sym (all-not Y X ts (λ u m. sym (not-not (has X u)) ∙ ap not (sym (same u m)))))
+    sym (not-not (any (has Y) ts))
+    ∙ ap not (sym (all-not Y X ts (λ u m. sym (not-not (has X u)) ∙ ap not (sym (same u m)))))
 
-next_dual : (q : Quantifier) (X Y : List Bool) {t : ℕ} (ts : List ℕ) → Memᴰ t ts → ((u : ℕ) → Memᴰ u ts → has Y u ≡ not (has X u))
+next_dual : (q : Quantifier) (X Y : List Bool) {t : ℕ} (ts : List ℕ) → Memᴰ t ts
+    → ((u : ℕ) → Memᴰ u ts → has Y u ≡ not (has X u))
     → next_in (other q) Y ts ≡ not (next_in q X ts)
 unfolding next_in all
 next_dual q X Y [] m same = absurd (Memᴰ.not-nil m)
@@ -79,24 +86,28 @@ module _ (n : ℕ) (next : ℕ → ℕ → Type 0) (targets : ℕ → List ℕ)
     Means X H = (s t : ℕ) → next s t → (has X s ≡ true) ↔ H s
 
     -- what level n says where it holds, and where it fails
-    abbrev Answer : Family → Quantifier → (ℕ → Type 0) → (ℕ → Type 0) → ℕ → Bool → Type 0
-    Answer f q a b s true = OnPaths q next s (Along f a b)
-    Answer f q a b s false = OnPaths (other q) next s (Along (dual f) (Not a) (Not b))
+    abbrev Says : Family → Quantifier → (ℕ → Type 0) → (ℕ → Type 0) → ℕ → Bool → Type 0
+    Says f q a b s true = OnPaths q next s (Along f a b)
+    Says f q a b s false = OnPaths (other q) next s (Along (dual f) (Not a) (Not b))
 
-    abbrev Answers : Family → Quantifier → List Bool → List Bool → (ℕ → Type 0) → (ℕ → Type 0) → Type 0
-    Answers f q A B a b = (s t : ℕ) → next s t → (v : Bool) → has (levels f q targets n A B) s ≡ v → Answer f q a b s v
+    abbrev Decides : Family → Quantifier → List Bool → List Bool → (ℕ → Type 0) → (ℕ → Type 0) → Type 0
+    Decides f q A B a b = (s t : ℕ) → next s t → (v : Bool) → has (levels f q targets n A B) s ≡ v → Says f q a b s v
 
-    release_answers : (q : Quantifier) (A B : List Bool) → length B ≡ n → (a b : ℕ → Type 0) → Means A a → Means B b → Answers Release q A B a b
-    release_answers q A B size a b A-is B-is s t h true e = release_holds n next targets sound complete inside total A B size a b A-is B-is q s t h e
-    release_answers q A B size a b A-is B-is s t h false e = release_fails n next targets sound complete inside total A B size a b A-is B-is q s t h e
+    release_decides : (q : Quantifier) (A B : List Bool) → length B ≡ n → (a b : ℕ → Type 0) → Means A a → Means B b
+        → Decides Release q A B a b
+    release_decides q A B size a b A-is B-is s t h true e =
+        release_holds n next targets sound complete inside total A B size a b A-is B-is q s t h e
+    release_decides q A B size a b A-is B-is s t h false e =
+        release_fails n next targets sound complete inside total A B size a b A-is B-is q s t h e
 
     -- G is release with a false everywhere
-    always_answers : (q : Quantifier) (A B : List Bool) → length B ≡ n → (a b : ℕ → Type 0) → Means B b → Answers Always q A B a b
+    always_decides : (q : Quantifier) (A B : List Bool) → length B ≡ n → (a b : ℕ → Type 0) → Means B b
+        → Decides Always q A B a b
     unfolding levels level
-    always_answers q A B size a b B-is s t h true e = on_each q next s (λ π path r k. r k (λ j l x. x))
-        (release_answers q [] B size (λ s. ⊥) b (λ s t h. (false≢true, absurd)) B-is s t h true e)
-    always_answers q A B size a b B-is s t h false e = on_each (other q) next s (λ π path u. (u.0, u.1))
-        (release_answers q [] B size (λ s. ⊥) b (λ s t h. (false≢true, absurd)) B-is s t h false e)
+    always_decides q A B size a b B-is s t h true e = on_each q next s (λ π path r k. r k (λ j l x. x))
+        (release_decides q [] B size (λ s. ⊥) b (λ s t h. (false≢true, absurd)) B-is s t h true e)
+    always_decides q A B size a b B-is s t h false e = on_each (other q) next s (λ π path u. (u.0, u.1))
+        (release_decides q [] B size (λ s. ⊥) b (λ s t h. (false≢true, absurd)) B-is s t h false e)
 
     -- ---- duals
 
@@ -115,19 +126,24 @@ module _ (n : ℕ) (next : ℕ → ℕ → Type 0) (targets : ℕ → List ℕ)
 
     -- at a kept state, a level is the opposite of that of the dual family
     levels_dual : (f : Family) (q : Quantifier) (A B : List Bool) (m : ℕ) (s t : ℕ) → next s t
-        → has (iterate (level (dual f) (other q) targets n (opposite A) (opposite B)) (opposite B) m) s ≡ not (has (iterate (level f q targets n A B) B m) s)
+        → has (iterate (level (dual f) (other q) targets n (opposite A) (opposite B)) (opposite B) m) s
+        ≡ not (has (iterate (level f q targets n A B) B m) s)
     unfolding iterate
     levels_dual f q A B zero s t h = opposite_mark B s t h
     levels_dual f q A B (suc m) s t h =
         level_mark (dual f) (other q) targets n (opposite A) (opposite B) _ s (inside s t h)
-        ∙ ap₂ (λ (x y : Bool). joined (dual f) x y (next_in (other q) (iterate (level (dual f) (other q) targets n (opposite A) (opposite B)) (opposite B) m) (targets s)))
+        ∙ ap₂ (λ (x y : Bool). joined (dual f) x y
+        (next_in (other q) (iterate (level (dual f) (other q) targets n (opposite A) (opposite B)) (opposite B) m)
+        (targets s)))
         (opposite_mark A s t h) (opposite_mark B s t h)
-        ∙ ap (joined (dual f) (not (has A s)) (not (has B s))) (next_dual q (iterate (level f q targets n A B) B m) _ (targets s) (complete s t h)
+        ∙ ap (joined (dual f) (not (has A s)) (not (has B s)))
+        (next_dual q (iterate (level f q targets n A B) B m) _ (targets s) (complete s t h)
         (λ u k. let g = total s u (sound s u k) in levels_dual f q A B m u g.0 g.1))
         ∙ joined_dual f (has A s) (has B s) _
         ∙ ap not (sym (level_mark f q targets n A B _ s (inside s t h)))
 
-    level_n_dual : (f : Family) (q : Quantifier) (A B : List Bool) (s t : ℕ) → next s t → (v : Bool) → has (levels f q targets n A B) s ≡ v
+    level_n_dual : (f : Family) (q : Quantifier) (A B : List Bool) (s t : ℕ) → next s t → (v : Bool)
+        → has (levels f q targets n A B) s ≡ v
         → has (levels (dual f) (other q) targets n (opposite A) (opposite B)) s ≡ not v
     unfolding levels
     level_n_dual f q A B s t h v e = levels_dual f q A B n s t h ∙ ap not e
@@ -140,44 +156,54 @@ module _ (n : ℕ) (next : ℕ → ℕ → Type 0) (targets : ℕ → List ℕ)
         go true e = (is s t h).0 e
         go false e = absurd (f (λ x. true≢false (sym ((is s t h).1 x) ∙ e)))
 
-    other_twice : (q : Quantifier) (s : ℕ) (P : (ℕ → ℕ) → Type 0) → OnPaths (other (other q)) next s P → OnPaths q next s P
+    other_twice : (q : Quantifier) (s : ℕ) (P : (ℕ → ℕ) → Type 0) → OnPaths (other (other q)) next s P
+        → OnPaths q next s P
     other_twice every s P p = p
     other_twice some s P p = p
 
-    -- A family answers where its dual does: its level holds where that of the dual fails, and what the dual then says of opposites is undone.
-    dual_answers : (f : Family) (q : Quantifier) (A B : List Bool) (a b : ℕ → Type 0)
-        → ((π : ℕ → ℕ) → ((k : ℕ) → next (π k) (π (suc k))) → Along (dual (dual f)) (Not (Not a)) (Not (Not b)) π → Along f a b π)
-        → Answers (dual f) (other q) (opposite A) (opposite B) (Not a) (Not b) → Answers f q A B a b
-    dual_answers f q A B a b undo answer s t h true e =
-        on_each q next s (λ π path. undo π path.steps) (other_twice q s _ (answer s t h false (level_n_dual f q A B s t h true e)))
-    dual_answers f q A B a b undo answer s t h false e = answer s t h true (level_n_dual f q A B s t h false e)
+    -- A family decides where its dual does: its level holds where that of the dual fails, and what the dual then says
+    -- of opposites is undone.
+    dual_decides : (f : Family) (q : Quantifier) (A B : List Bool) (a b : ℕ → Type 0)
+        → ((π : ℕ → ℕ) → ((k : ℕ) → next (π k) (π (suc k))) → Along (dual (dual f)) (Not (Not a)) (Not (Not b)) π
+        → Along f a b π)
+        → Decides (dual f) (other q) (opposite A) (opposite B) (Not a) (Not b) → Decides f q A B a b
+    dual_decides f q A B a b undo answer s t h true e =
+        on_each q next s (λ π path. undo π path.steps)
+        (other_twice q s _ (answer s t h false (level_n_dual f q A B s t h true e)))
+    dual_decides f q A B a b undo answer s t h false e = answer s t h true (level_n_dual f q A B s t h false e)
 
-    until_answers : (q : Quantifier) (A B : List Bool) (a b : ℕ → Type 0) → Means A a → Means B b → Answers Until q A B a b
-    until_answers q A B a b A-is B-is = dual_answers Until q A B a b
+    until_decides : (q : Quantifier) (A B : List Bool) (a b : ℕ → Type 0) → Means A a → Means B b
+        → Decides Until q A B a b
+    until_decides q A B a b A-is B-is = dual_decides Until q A B a b
         (λ π steps u. (u.0, decided B b B-is _ _ (steps u.0) u.1, λ j l. decided A a A-is _ _ (steps j) (u.2 j l)))
-        (release_answers (other q) (opposite A) (opposite B) (length_tabulate n _) (Not a) (Not b) (opposite_means A a A-is) (opposite_means B b B-is))
+        (release_decides (other q) (opposite A) (opposite B) (length_tabulate n _) (Not a) (Not b)
+        (opposite_means A a A-is) (opposite_means B b B-is))
 
-    eventually_answers : (q : Quantifier) (A B : List Bool) (a b : ℕ → Type 0) → Means B b → Answers Eventually q A B a b
-    eventually_answers q A B a b B-is = dual_answers Eventually q A B a b
+    eventually_decides : (q : Quantifier) (A B : List Bool) (a b : ℕ → Type 0) → Means B b
+        → Decides Eventually q A B a b
+    eventually_decides q A B a b B-is = dual_decides Eventually q A B a b
         (λ π steps u. (u.0, decided B b B-is _ _ (steps u.0) u.1))
-        (always_answers (other q) (opposite A) (opposite B) (length_tabulate n _) (Not a) (Not b) (opposite_means B b B-is))
+        (always_decides (other q) (opposite A) (opposite B) (length_tabulate n _) (Not a) (Not b)
+        (opposite_means B b B-is))
 
     -- ---- the four families
 
     module _ (A B : List Bool) (size : length B ≡ n) (a b : ℕ → Type 0) (A-is : Means A a) (B-is : Means B b) where
-      pub answers : (f : Family) (q : Quantifier) → Answers f q A B a b
-      answers Release q = release_answers q A B size a b A-is B-is
-      answers Until q = until_answers q A B a b A-is B-is
-      answers Eventually q = eventually_answers q A B a b B-is
-      answers Always q = always_answers q A B size a b B-is
+      pub decides : (f : Family) (q : Quantifier) → Decides f q A B a b
+      decides Release q = release_decides q A B size a b A-is B-is
+      decides Until q = until_decides q A B a b A-is B-is
+      decides Eventually q = eventually_decides q A B a b B-is
+      decides Always q = always_decides q A B size a b B-is
 
       -- At a kept state, level n says what the kind says of the fullpaths.
-      pub level_paths : (f : Family) (q : Quantifier) (s t : ℕ) → next s t → (has (levels f q targets n A B) s ≡ true) ↔ OnPaths q next s (Along f a b)
+      pub level_paths : (f : Family) (q : Quantifier) (s t : ℕ) → next s t
+          → (has (levels f q targets n A B) s ≡ true) ↔ OnPaths q next s (Along f a b)
       level_paths f q s t h = (
-        answers f q s t h true,
+        decides f q s t h true,
         λ p. go (has (levels f q targets n A B) s) refl p,
       )
         where
-          go : (v : Bool) → has (levels f q targets n A B) s ≡ v → OnPaths q next s (Along f a b) → has (levels f q targets n A B) s ≡ true
+          go : (v : Bool) → has (levels f q targets n A B) s ≡ v → OnPaths q next s (Along f a b)
+              → has (levels f q targets n A B) s ≡ true
           go true e p = e
-          go false e p = absurd (apart q f next s a b p (answers f q s t h false e))
+          go false e p = absurd (apart q f next s a b p (decides f q s t h false e))

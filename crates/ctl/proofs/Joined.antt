@@ -1,5 +1,5 @@
--- What a level joins, by its family: it rises with the level below, it lies below b or above it, and it is the opposite of what the dual family joins
--- of the opposites.
+-- What a level joins, by its family: it rises with the level below, it lies below b or above it, and it is the
+-- opposite of what the dual family joins of the opposites.
 use mathlib.Core.Path.{◌≡◌, refl}
 use mathlib.Core.Bool.{Bool, true, false, not, false≢true}
 use mathlib.Core.Logic.{◌⊎◌, inl, inr}
@@ -40,7 +40,8 @@ joined_up f a b false true k e = joined-true f a b e
 joined_up f a b false false k e = e
 
 -- V and G fall: their levels lie in the set of b. U and F rise: theirs have all of it.
-pub falls-or_rises : (f : Family) → ((a b x : Bool) → joined f a b x ≡ true → b ≡ true) ⊎ ((a b x : Bool) → b ≡ true → joined f a b x ≡ true)
+pub falls-or_rises : (f : Family)
+    → ((a b x : Bool) → joined f a b x ≡ true → b ≡ true) ⊎ ((a b x : Bool) → b ≡ true → joined f a b x ≡ true)
 falls-or_rises Release = inl go
   where
     go : (a b x : Bool) → joined Release a b x ≡ true → b ≡ true

@@ -13,7 +13,22 @@ use Rattle.table.specs.declared.operator.Family.TheVariants.{Release, Until, Eve
 use Rattle.table.specs.Table.{Table, node_at}
 use Rattle.table.specs.Facts.{Wellformed}
 use Rattle.ctl.specs.Meaning.{Formula, bottom, Holds}
-use Rattle.ctl.specs.Rule.{Quantifier, every, some, Operator, constant, atom, negation, conjunction, disjunction, next, fixpoint, operator_of, formula_of, formula}
+use Rattle.ctl.specs.Rule.{
+  Quantifier,
+  every,
+  some,
+  Operator,
+  constant,
+  atom,
+  negation,
+  conjunction,
+  disjunction,
+  next,
+  fixpoint,
+  operator_of,
+  formula_of,
+  formula,
+}
 use Rattle.ctl.specs.Kept.{Next, Kept, Total, Labelled, NodeHolds}
 use Rattle.ctl.specs.Levels.{has, iterate, next_in, level, levels}
 use Rattle.ctl.specs.Labels.{marks, targets, is_kept, label_of, label, marked}
@@ -78,11 +93,13 @@ pub record KeptSet (T : Table) (list : List ℕ) (X : List Bool) : Type 0 where
 
 module _ (T : Table) (list : List ℕ) where
   marks_set : (f : ℕ → Bool) → KeptSet T list (marks T list f)
-  marks_set f = record { size = length_tabulate (length T.states) _; inside = λ s e. go s e (dec_lt s (length T.states)) }
+  marks_set f =
+      record { size = length_tabulate (length T.states) _; inside = λ s e. go s e (dec_lt s (length T.states)) }
     where
       go : (s : ℕ) → has (marks T list f) s ≡ true → Dec (s < length T.states) → Kept T list s
       go s e (yes h) =
-          (is_kept_lem T list s).0 ((and-eq-true_iff (is_kept T list s) (f s)).0 (sym (get_d_tabulate (length T.states) _ s false h) ∙ e)).0
+          (is_kept_lem T list s).0 ((and-eq-true_iff (is_kept T list s) (f s)).0
+          (sym (get_d_tabulate (length T.states) _ s false h) ∙ e)).0
       go s e (no h) = absurd (false≢true (sym (get_d_tabulate_past (length T.states) _ s false (omega arith)) ∙ e))
 
   -- the states of a level are kept: each is one of b's, or a next state leaves it
@@ -97,10 +114,13 @@ module _ (T : Table) (list : List ℕ) where
 
       go : (s : ℕ) → has (level f q (targets T list) (length T.states) A B X) s ≡ true → Kept T list s
       go s e = ⊎_elim (k.inside s)
-          (λ x. (is_kept_lem T list s).0 ((and-eq-true_iff (is_kept T list s) _).0 (sym (next_of_kept q X (targets T list s)) ∙ x)).0)
-          (joined_source f (has A s) (has B s) _ (sym (level_mark f q (targets T list) _ A B X s (level_inside f q (targets T list) _ A B X s e)) ∙ e))
+          (λ x. (is_kept_lem T list s).0 ((and-eq-true_iff (is_kept T list s) _).0
+          (sym (next_of_kept q X (targets T list s)) ∙ x)).0)
+          (joined_source f (has A s) (has B s) _
+          (sym (level_mark f q (targets T list) _ A B X s (level_inside f q (targets T list) _ A B X s e)) ∙ e))
 
-  operator_set : (o : Operator) (child : ℕ → List Bool) → OfChildren (λ k. KeptSet T list (child k)) o → KeptSet T list (label_of T list o child)
+  operator_set : (o : Operator) (child : ℕ → List Bool) → OfChildren (λ k. KeptSet T list (child k)) o
+      → KeptSet T list (label_of T list o child)
   unfolding label_of levels
   operator_set (constant b) child k = marks_set _
   operator_set (atom p) child k = marks_set _
@@ -135,7 +155,8 @@ module _ (T : Table) (wf : Wellformed T) (list : List ℕ) (total : Total T list
   abbrev Means : List Bool → (ℕ → Type 0) → Type 0
   Means X H = (s t : ℕ) → Next T list s t → (has X s ≡ true) ↔ H s
 
-  marks_mean : (f : ℕ → Bool) (H : ℕ → Type 0) → ((s t : ℕ) → Next T list s t → (f s ≡ true) ↔ H s) → Means (marks T list f) H
+  marks_mean : (f : ℕ → Bool) (H : ℕ → Type 0) → ((s t : ℕ) → Next T list s t → (f s ≡ true) ↔ H s)
+      → Means (marks T list f) H
   marks_mean f H is s t h = rw (
     get_d_tabulate (length T.states) (λ s. is_kept T list s && f s) s false (next_inside T wf list s t h).0,
     (is_kept_lem T list s).1 (t, h),
@@ -146,18 +167,24 @@ module _ (T : Table) (wf : Wellformed T) (list : List ℕ) (total : Total T list
     next_mean : (s u : ℕ) → Next T list s u → (has X u ≡ true) ↔ H u
     next_mean s u g = let k = total s u g in X-is u k.0 k.1
 
-    every_mean : (s t : ℕ) → Next T list s t → (next_in every X (targets T list s) ≡ true) ↔ ((u : ℕ) → Next T list s u → H u)
-    every_mean s t h = Iff.trans (next_every (Next T list) (targets T list) (targets_sound T list) (targets_complete T list) X s t h)
+    every_mean : (s t : ℕ) → Next T list s t
+        → (next_in every X (targets T list s) ≡ true) ↔ ((u : ℕ) → Next T list s u → H u)
+    every_mean s t h =
+        Iff.trans (next_every (Next T list) (targets T list) (targets_sound T list) (targets_complete T list) X s t h)
         (λ all u g. (next_mean s u g).0 (all u g), λ all u g. (next_mean s u g).1 (all u g))
 
-    some_mean : (s t : ℕ) → Next T list s t → (next_in some X (targets T list s) ≡ true) ↔ ((u : ℕ) × Next T list s u × H u)
-    some_mean s t h = Iff.trans (next_some (Next T list) (targets T list) (targets_sound T list) (targets_complete T list) X s)
+    some_mean : (s t : ℕ) → Next T list s t
+        → (next_in some X (targets T list s) ≡ true) ↔ ((u : ℕ) × Next T list s u × H u)
+    some_mean s t h =
+        Iff.trans (next_some (Next T list) (targets T list) (targets_sound T list) (targets_complete T list) X s)
         (λ r. (r.0, r.1, (next_mean s r.0 r.1).0 r.2), λ r. (r.0, r.1, (next_mean s r.0 r.1).1 r.2))
 
   -- the levels of a fixed-point kind mean what the kind says of the fullpaths
-  fixpoint_mean : (f : Family) (q : Quantifier) (A B : List Bool) (a b : ℕ → Type 0) → KeptSet T list B → Means A a → Means B b
+  fixpoint_mean : (f : Family) (q : Quantifier) (A B : List Bool) (a b : ℕ → Type 0) → KeptSet T list B → Means A a
+      → Means B b
       → Means (levels f q (targets T list) (length T.states) A B) (λ s. OnPaths q (Next T list) s (Along f a b))
-  fixpoint_mean f q A B a b k A-is B-is = level_paths (length T.states) (Next T list) (targets T list) (targets_sound T list) (targets_complete T list)
+  fixpoint_mean f q A B a b k A-is B-is =
+      level_paths (length T.states) (Next T list) (targets T list) (targets_sound T list) (targets_complete T list)
       (λ s t h. (next_inside T wf list s t h).0) total A B k.size a b A-is B-is f q
 
   abbrev HoldsAt : Formula → ℕ → Type 0
@@ -172,21 +199,32 @@ module _ (T : Table) (wf : Wellformed T) (list : List ℕ) (total : Total T list
   operator_mean (constant true) child form k is = marks_mean _ _ (λ s t h. (λ e. tt, λ x. refl))
   operator_mean (atom p) child form k is = marks_mean _ _ (λ s t h. Iff.rfl)
   operator_mean (negation a) child form k is = marks_mean _ _ (λ s t h. Iff.trans (not-true_iff _) (Iff.not (is s t h)))
-  operator_mean (conjunction a b) child form k is = marks_mean _ _ (λ s t h. Iff.trans (and-eq-true_iff _ _) (Iff.and (is.0 s t h) (is.1 s t h)))
-  operator_mean (disjunction a b) child form k is = marks_mean _ _ (λ s t h. Iff.trans (or-true_iff _ _) (iff_or (is.0 s t h) (is.1 s t h)))
+  operator_mean (conjunction a b) child form k is =
+      marks_mean _ _ (λ s t h. Iff.trans (and-eq-true_iff _ _) (Iff.and (is.0 s t h) (is.1 s t h)))
+  operator_mean (disjunction a b) child form k is =
+      marks_mean _ _ (λ s t h. Iff.trans (or-true_iff _ _) (iff_or (is.0 s t h) (is.1 s t h)))
   operator_mean (next every a) child form k is = marks_mean _ _ (every_mean _ _ is)
   operator_mean (next some a) child form k is = marks_mean _ _ (some_mean _ _ is)
-  operator_mean (fixpoint Release every a b) child form k is = fixpoint_mean Release every (child a) (child b) _ _ k.1 is.0 is.1
-  operator_mean (fixpoint Release some a b) child form k is = fixpoint_mean Release some (child a) (child b) _ _ k.1 is.0 is.1
-  operator_mean (fixpoint Until every a b) child form k is = fixpoint_mean Until every (child a) (child b) _ _ k.1 is.0 is.1
-  operator_mean (fixpoint Until some a b) child form k is = fixpoint_mean Until some (child a) (child b) _ _ k.1 is.0 is.1
-  operator_mean (fixpoint Eventually every a b) child form k is = fixpoint_mean Eventually every (child a) (child b) (HoldsAt (form a)) _ k.1 is.0 is.1
-  operator_mean (fixpoint Eventually some a b) child form k is = fixpoint_mean Eventually some (child a) (child b) (HoldsAt (form a)) _ k.1 is.0 is.1
-  operator_mean (fixpoint Always every a b) child form k is = fixpoint_mean Always every (child a) (child b) (HoldsAt (form a)) _ k.1 is.0 is.1
-  operator_mean (fixpoint Always some a b) child form k is = fixpoint_mean Always some (child a) (child b) (HoldsAt (form a)) _ k.1 is.0 is.1
+  operator_mean (fixpoint Release every a b) child form k is =
+      fixpoint_mean Release every (child a) (child b) _ _ k.1 is.0 is.1
+  operator_mean (fixpoint Release some a b) child form k is =
+      fixpoint_mean Release some (child a) (child b) _ _ k.1 is.0 is.1
+  operator_mean (fixpoint Until every a b) child form k is =
+      fixpoint_mean Until every (child a) (child b) _ _ k.1 is.0 is.1
+  operator_mean (fixpoint Until some a b) child form k is =
+      fixpoint_mean Until some (child a) (child b) _ _ k.1 is.0 is.1
+  operator_mean (fixpoint Eventually every a b) child form k is =
+      fixpoint_mean Eventually every (child a) (child b) (HoldsAt (form a)) _ k.1 is.0 is.1
+  operator_mean (fixpoint Eventually some a b) child form k is =
+      fixpoint_mean Eventually some (child a) (child b) (HoldsAt (form a)) _ k.1 is.0 is.1
+  operator_mean (fixpoint Always every a b) child form k is =
+      fixpoint_mean Always every (child a) (child b) (HoldsAt (form a)) _ k.1 is.0 is.1
+  operator_mean (fixpoint Always some a b) child form k is =
+      fixpoint_mean Always some (child a) (child b) (HoldsAt (form a)) _ k.1 is.0 is.1
 
   -- at a kept state, a node's mark says that the node holds
-  pub label_mean : (i : ℕ) → i < length T.nodes → (s t : ℕ) → Next T list s t → (marked T list i s ≡ true) ↔ NodeHolds T list i s
+  pub label_mean : (i : ℕ) → i < length T.nodes → (s t : ℕ) → Next T list s t
+      → (marked T list i s ≡ true) ↔ NodeHolds T list i s
   label_mean = node-induction T wf _ (λ i h is. rw (label_of_lem T wf list i h, formula_of_lem T wf i h) (
       operator_mean _ _ _ (of-children T wf i h (λ k l. label_set T wf list k (omega arith))) is))
 

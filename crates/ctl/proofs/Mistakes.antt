@@ -1,4 +1,5 @@
--- Mistakes that the definitions do not make: release without end, release and its last place, until without end, dead ends, initial states and loops.
+-- Mistakes that the definitions do not make: release without end, release and its last place, until without end, dead
+-- ends, initial states and loops.
 use Prim.Native.Nat.{ℕ, zero, suc, ◌≤◌, ◌<◌}
 use native.Mathlib.Omega.{arith}
 use mathlib.Core.Path.{◌≡◌, refl, sym, ◌∙◌}
@@ -17,7 +18,8 @@ use Rattle.ctl.specs.Price.{sum_below, list_price}
 use Rattle.ctl.specs.Meaning.{Formula, ax, Fullpath, Released, UntilAlong, Holds}
 use Rattle.ctl.specs.Rule.{every, bottom_up, root_index}
 use Rattle.ctl.specs.Kept.{Labelled, IsList, Next, Kept, Repair, NarrowRepair}
-use Rattle.ctl.specs.Levels.{tabulate, iterate, next_in, level, levels}
+use Rattle.ctl.specs.Range.{tabulate}
+use Rattle.ctl.specs.Levels.{iterate, next_in, level, levels}
 use Rattle.ctl.specs.Labels.{kept_steps, ends_from, is_kept, label_of, label, marked}
 use Rattle.ctl.specs.Reached.{is_initial_kept, reached_set, strike}
 use Rattle.ctl.specs.Tests.{is_repair, narrow_tests}
@@ -31,7 +33,8 @@ pub endless_released : (a b : ℕ → Type 0) (π : ℕ → ℕ) → ((k : ℕ) 
 endless_released a b π always k none = always k
 
 -- b must hold also where a first holds
-pub released_at_first : (a b : ℕ → Type 0) (π : ℕ → ℕ) → Released a b π → (k : ℕ) → ((j : ℕ) → j < k → ¬ a (π j)) → a (π k) → b (π k)
+pub released_at_first : (a b : ℕ → Type 0) (π : ℕ → ℕ) → Released a b π → (k : ℕ) → ((j : ℕ) → j < k → ¬ a (π j))
+    → a (π k) → b (π k)
 released_at_first a b π r k none first = r k none
 
 -- ---- until
@@ -43,12 +46,14 @@ endless_not_until a b π never u = never u.0 u.1
 -- ---- dead ends
 
 -- a state that is not kept is marked for no node, whether or not the list is total
-pub dead_end_unmarked : (T : Table) → Wellformed T → (list : List ℕ) (i : ℕ) → i < length T.nodes → (s : ℕ) → ¬ Kept T list s
+pub dead_end_unmarked : (T : Table) → Wellformed T → (list : List ℕ) (i : ℕ) → i < length T.nodes → (s : ℕ)
+    → ¬ Kept T list s
     → marked T list i s ≡ false
 dead_end_unmarked T wf list i h s dead = not_so (marked T list i s) (λ e. dead (marked_kept T wf list i h s e))
 
 -- the path meaning alone is no guard: AX holds at a dead end, for want of next states
-pub ax_holds_at_dead_end : (T : Table) (list : List ℕ) (a : Formula) (s : ℕ) → ¬ Kept T list s → Holds (Next T list) (Labelled T) (ax a) s
+pub ax_holds_at_dead_end : (T : Table) (list : List ℕ) (a : Formula) (s : ℕ) → ¬ Kept T list s
+    → Holds (Next T list) (Labelled T) (ax a) s
 unfolding Holds
 ax_holds_at_dead_end T list a s dead t h = absurd (dead (t, h))
 
@@ -157,10 +162,11 @@ loops_wellformed = record {
 both_form : IsList loops both_loops
 both_form = record { size = refl; bits = below_two (λ j. get_or both_loops j 0 ≤ 1) (omega arith) (omega arith) }
 
--- A kept loop that no initial state reaches does no harm in 01's sense: both loops are a repair.
+-- A kept loop that no initial state reaches does no harm in the wider sense: both loops are a repair.
 pub loops_repair : Repair loops both_loops
 loops_repair = (repair_decided loops loops_wellformed both_loops both_form).0 loops_pass
 
 -- In the narrower sense they are none.
 pub loops-not_narrow : ¬ NarrowRepair loops both_loops
-loops-not_narrow r = refused UnreachedStep (sym loops_unreached ∙ (narrow_decided loops loops_wellformed both_loops both_form).1 r)
+loops-not_narrow r =
+    refused UnreachedStep (sym loops_unreached ∙ (narrow_decided loops loops_wellformed both_loops both_form).1 r)

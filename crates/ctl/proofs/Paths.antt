@@ -1,5 +1,6 @@
--- Level n of release and the fullpaths, both ways: where it holds, a V b holds along every fullpath (A) or along one (E); where it fails, not a U not b
--- does along one (A) or along every one (E). A state is kept when a kept step leaves it.
+-- Level n of release and the fullpaths, both ways: where it holds, a V b holds along every fullpath (A) or along one
+-- (E); where it fails, not a U not b does along one (A) or along every one (E). A state is kept when a kept step
+-- leaves it.
 use Prim.Native.Nat.{ℕ, zero, suc, ◌<◌}
 use native.Mathlib.Nat.{not-suc-le-zero, le_of_suc-le-suc}
 use native.Mathlib.Omega.{arith}
@@ -69,20 +70,23 @@ next_all X (t ∷ ts) m = refl
 module _ (next : ℕ → ℕ → Type 0) (targets : ℕ → List ℕ) (sound : (s t : ℕ) → Memᴰ t (targets s) → next s t)
     (complete : (s t : ℕ) → next s t → Memᴰ t (targets s)) where
   -- AX of a set: each next state is in it
-  pub next_every : (X : List Bool) (s t : ℕ) → next s t → (next_in every X (targets s) ≡ true) ↔ ((u : ℕ) → next s u → has X u ≡ true)
+  pub next_every : (X : List Bool) (s t : ℕ) → next s t
+      → (next_in every X (targets s) ≡ true) ↔ ((u : ℕ) → next s u → has X u ≡ true)
   next_every X s t h = rw (next_all X (targets s) (complete s t h)) (
     λ e u g. (all_true (has X) (targets s)).0 e u (complete s u g),
     λ k. (all_true (has X) (targets s)).1 (λ u m. k u (sound s u m)),
   )
 
   -- where AX of a set fails: a next state outside the set
-  pub next_outside : (X : List Bool) (s t : ℕ) → next s t → next_in every X (targets s) ≡ false → (u : ℕ) × next s u × (has X u ≡ false)
+  pub next_outside : (X : List Bool) (s t : ℕ) → next s t → next_in every X (targets s) ≡ false
+      → (u : ℕ) × next s u × (has X u ≡ false)
   next_outside X s t h e =
       let r = all-false (has X) (targets s) (sym (next_all X (targets s) (complete s t h)) ∙ e) in
       (r.0, sound s r.0 r.1, r.2)
 
   -- EX of a set: a next state is in it
-  pub next_some : (X : List Bool) (s : ℕ) → (next_in some X (targets s) ≡ true) ↔ ((u : ℕ) × next s u × (has X u ≡ true))
+  pub next_some : (X : List Bool) (s : ℕ)
+      → (next_in some X (targets s) ≡ true) ↔ ((u : ℕ) × next s u × (has X u ≡ true))
   unfolding next_in
   next_some X s = (
     λ e. let r = (any-true (has X) (targets s)).0 e in (r.0, sound s r.0 r.1, r.2),
@@ -140,15 +144,19 @@ module _ (n : ℕ) (next : ℕ → ℕ → Type 0) (targets : ℕ → List ℕ)
     abbrev Stays : Quantifier → ℕ → ℕ → Type 0
     Stays q s u = has (level_n q) s ≡ true → ¬ a s → has (level_n q) u ≡ true
 
-    -- a kept state is in level n, which is the level below itself: b holds at it and, where a fails, level n holds at the next states
-    level_n_true : (q : Quantifier) (s t : ℕ) → next s t → has (level_n q) s ≡ true → b s × (¬ a s → next_in q (level_n q) (targets s) ≡ true)
+    -- a kept state is in level n, which is the level below itself: b holds at it and, where a fails, level n holds at
+    -- the next states
+    level_n_true : (q : Quantifier) (s t : ℕ) → next s t → has (level_n q) s ≡ true
+        → b s × (¬ a s → next_in q (level_n q) (targets s) ≡ true)
     level_n_true q s t h e =
         let r = (release_true (has A s) (has B s) _).0
-        (sym (level_mark Release q targets n A B (level_n q) s (inside s t h)) ∙ rw (levels_fixed Release q targets n A B size) e) in
+        (sym (level_mark Release q targets n A B (level_n q) s (inside s t h))
+        ∙ rw (levels_fixed Release q targets n A B size) e) in
         ((B-is s t h).0 r.0, λ fails. r.1 (λ m. fails ((A-is s t h).0 m)))
 
     -- a kept state is in no level m + 1: b fails at it, or a does and level m at the next states
-    level-false : (q : Quantifier) (X : List Bool) (s t : ℕ) → next s t → has (level Release q targets n A B X) s ≡ false
+    level-false : (q : Quantifier) (X : List Bool) (s t : ℕ) → next s t
+        → has (level Release q targets n A B X) s ≡ false
         → Not b s ⊎ (Not a s × (next_in q X (targets s) ≡ false))
     level-false q X s t h e = ⊎_elim
         (λ f. inl (λ x. true≢false (sym ((B-is s t h).1 x) ∙ f)))
@@ -158,7 +166,8 @@ module _ (n : ℕ) (next : ℕ → ℕ → Type 0) (targets : ℕ → List ℕ)
     -- ---- where level n holds
 
     -- a path of steps that stay is released from level n
-    stays_released : (q : Quantifier) (π : ℕ → ℕ) → ((k : ℕ) → next (π k) (π (suc k))) → ((k : ℕ) → Stays q (π k) (π (suc k)))
+    stays_released : (q : Quantifier) (π : ℕ → ℕ) → ((k : ℕ) → next (π k) (π (suc k)))
+        → ((k : ℕ) → Stays q (π k) (π (suc k)))
         → has (level_n q) (π zero) ≡ true → Released a b π
     stays_released q π steps stays start k none = (level_n_true q (π k) (π (suc k)) (steps k) (go k none)).0
       where
@@ -168,7 +177,8 @@ module _ (n : ℕ) (next : ℕ → ℕ → Type 0) (targets : ℕ → List ℕ)
 
     -- for A each step stays
     every_stays : (s u : ℕ) → next s u → Stays every s u
-    every_stays s u h e fails = (next_every next targets sound complete (level_n every) s u h).0 ((level_n_true every s u h e).1 fails) u h
+    every_stays s u h e fails =
+        (next_every next targets sound complete (level_n every) s u h).0 ((level_n_true every s u h e).1 fails) u h
 
     -- for E a step stays, of those that leave a kept state
     some_stays : (s t : ℕ) → next s t → (u : ℕ) × next s u × Stays some s u
@@ -185,7 +195,8 @@ module _ (n : ℕ) (next : ℕ → ℕ → Type 0) (targets : ℕ → List ℕ)
     fails_here s t h f = let p = follow next total s t h in (p.0, p.1, until_here (Not a) (Not b) p.0 (rw p.1.starts f))
 
     -- from a kept state outside a level of A, a fullpath along which not a U not b
-    every_fails : (m : ℕ) (s t : ℕ) → next s t → has (at_level every m) s ≡ false → OnPaths some next s (UntilAlong (Not a) (Not b))
+    every_fails : (m : ℕ) (s t : ℕ) → next s t → has (at_level every m) s ≡ false
+        → OnPaths some next s (UntilAlong (Not a) (Not b))
     unfolding iterate
     every_fails zero s t h e = fails_here s t h (λ x. true≢false (sym ((B-is s t h).1 x) ∙ e))
     every_fails (suc m) s t h e = ⊎_elim (fails_here s t h) (λ r.
@@ -196,9 +207,11 @@ module _ (n : ℕ) (next : ℕ → ℕ → Type 0) (targets : ℕ → List ℕ)
         (level-false every (at_level every m) s t h e)
 
     -- along each fullpath from a state outside a level of E, not a U not b
-    some_fails : (m : ℕ) (π : ℕ → ℕ) → ((k : ℕ) → next (π k) (π (suc k))) → has (at_level some m) (π zero) ≡ false → UntilAlong (Not a) (Not b) π
+    some_fails : (m : ℕ) (π : ℕ → ℕ) → ((k : ℕ) → next (π k) (π (suc k))) → has (at_level some m) (π zero) ≡ false
+        → UntilAlong (Not a) (Not b) π
     unfolding iterate
-    some_fails zero π steps e = until_here (Not a) (Not b) π (λ x. true≢false (sym ((B-is (π zero) (π 1) (steps zero)).1 x) ∙ e))
+    some_fails zero π steps e =
+        until_here (Not a) (Not b) π (λ x. true≢false (sym ((B-is (π zero) (π 1) (steps zero)).1 x) ∙ e))
     some_fails (suc m) π steps e = ⊎_elim (until_here (Not a) (Not b) π) (λ r.
         until_later (Not a) (Not b) π r.0 (some_fails m (λ k. π (suc k)) (λ k. steps (suc k))
         (next_none next targets sound complete (at_level some m) (π zero) r.1 (π 1) (steps zero))))
@@ -207,7 +220,8 @@ module _ (n : ℕ) (next : ℕ → ℕ → Type 0) (targets : ℕ → List ℕ)
     -- ---- both
 
     -- At a kept state in level n, a V b holds along the fullpaths.
-    pub release_holds : (q : Quantifier) (s t : ℕ) → next s t → has (levels Release q targets n A B) s ≡ true → OnPaths q next s (Released a b)
+    pub release_holds : (q : Quantifier) (s t : ℕ) → next s t → has (levels Release q targets n A B) s ≡ true
+        → OnPaths q next s (Released a b)
     unfolding levels
     release_holds every s t h e = λ π path.
         stays_released every π path.steps (λ k. every_stays (π k) (π (suc k)) (path.steps k)) (rw path.starts e)

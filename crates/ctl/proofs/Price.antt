@@ -12,7 +12,8 @@ use Rattle.ctl.specs.Price.{sum_below, struck_price}
 pub sum_cong : (n : ℕ) (f g : ℕ → ℕ) → ((j : ℕ) → j < n → f j ≡ g j) → sum_below n f ≡ sum_below n g
 unfolding sum_below
 sum_cong zero f g same = refl
-sum_cong (suc n) f g same = ap₂ (λ (x y : ℕ). x + y) (sum_cong n f g (λ j h. same j (omega arith))) (same n (omega arith))
+sum_cong (suc n) f g same =
+    ap₂ (λ (x y : ℕ). x + y) (sum_cong n f g (λ j h. same j (omega arith))) (same n (omega arith))
 
 -- with one term more
 pub sum_next : (n : ℕ) (f : ℕ → ℕ) → sum_below (n + 1) f ≡ sum_below n f + f n
@@ -41,7 +42,8 @@ sum_most zero k f h = omega arith
 sum_most (suc n) k f h = omega (arith, sum_most n k f h, h n, mul-suc k n)
 
 -- steps that cost at most k each cost in all at most k times their number
-pub price_most : (T : Table) (f : ℕ → Bool) (k : ℕ) → ((j : ℕ) → (step_at T j).price ≤ k) → struck_price T f ≤ k * length T.steps
+pub price_most : (T : Table) (f : ℕ → Bool) (k : ℕ) → ((j : ℕ) → (step_at T j).price ≤ k)
+    → struck_price T f ≤ k * length T.steps
 price_most T f k most = sum_most (length T.steps) k _ (λ j. cond_most (f j) (step_at T j).price k (most j))
 
 module _ (T : Table) (f g : ℕ → Bool) where

@@ -1,4 +1,5 @@
--- Rank is a strict total order on the kept lists of one length, so a class of them has at most one first list, and at most one cheapest, then first.
+-- Rank is a strict total order on the kept lists of one length, so a class of them has at most one first list, and at
+-- most one cheapest, then first.
 use Prim.Native.Nat.{ℕ, zero, suc, ◌≤◌, ◌<◌, zero-le, suc-le-suc}
 use mathlib.Core.Path.{◌≡◌, refl, sym, ap, ◌∙◌}
 use mathlib.Core.Logic.{◌⊎◌, inl, inr}
@@ -98,16 +99,19 @@ trichotomy (x ∷ l) (y ∷ m) same p q =
     heads (suc (suc x)) y a b t = absurd (omega arith)
 
 -- lists of one length have at most one first among them
-pub first_unique : (P : List ℕ → Type 0) (size : (l m : List ℕ) → P l → P m → length l ≡ length m) (l m : List ℕ) → First P l → First P m → l ≡ m
+pub first_unique : (P : List ℕ → Type 0) (size : (l m : List ℕ) → P l → P m → length l ≡ length m) (l m : List ℕ)
+    → First P l → First P m → l ≡ m
 first_unique P size l m a b = by (List-discrete ℕ_discrete l m)
   where
     by : Dec (l ≡ m) → l ≡ m
     by (yes e) = e
     by (no n) =
-        absurd (asymmetric l m (size l m a.member b.member) (a.before m b.member (λ e. n (sym e))) (b.before l a.member n))
+        absurd (asymmetric l m (size l m a.member b.member) (a.before m b.member (λ e. n (sym e)))
+        (b.before l a.member n))
 
 -- and so at most one cheapest, then first in rank
-pub cheapest_unique : (price : List ℕ → ℕ) (P : List ℕ → Type 0) (size : (l m : List ℕ) → P l → P m → length l ≡ length m) (l m : List ℕ)
+pub cheapest_unique : (price : List ℕ → ℕ) (P : List ℕ → Type 0)
+    (size : (l m : List ℕ) → P l → P m → length l ≡ length m) (l m : List ℕ)
     → Cheapest price P l → Cheapest price P m → l ≡ m
 cheapest_unique price P size l m a b =
     let same : price m ≡ price l = omega (arith, a.lowest m b.first.member.0, b.lowest l a.first.member.0) in

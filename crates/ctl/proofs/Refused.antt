@@ -1,5 +1,5 @@
--- The judge accepts exactly the repairs in the narrower sense, and each refusal says which part of a repair fails, and that
--- all that is tested before it holds.
+-- The judge accepts exactly the repairs in the narrower sense, and each refusal says which part of a repair fails,
+-- and that all that is tested before it holds.
 use Prim.Native.Nat.{ℕ}
 use mathlib.Core.Path.{◌≡◌, refl, sym, subst, ◌∙◌}
 use mathlib.Core.Bool.{Bool, true, false, false≢true}
@@ -35,7 +35,14 @@ use Rattle.ctl.specs.Kept.{IsList}
 use Rattle.ctl.specs.Exact.{JudgeIsExact, JudgeRefusesRightly}
 use Rattle.ctl.specs.Refused.{JudgeRefused}
 use Rattle.ctl.specs.Tests.{is_total, keeps_initial, leaves_reached, root_marked, narrow_tests, judge_verdict}
-use Rattle.ctl.proofs.Repair.{is_list, is-total, keeps_initial_lem, leaves_reached_lem, root_marked_lem, judge_accepts_repairs}
+use Rattle.ctl.proofs.Repair.{
+  is_list,
+  is-total,
+  keeps_initial_lem,
+  leaves_reached_lem,
+  root_marked_lem,
+  judge_accepts_repairs,
+}
 
 -- a refusal of two verdicts is the first one's, or the second one's after the first accepts
 pub by_first : (P : Refusal → Type 0) (v w : Verdict) (r : Refusal)
@@ -44,7 +51,8 @@ by_first P (Ok tt) w r first second e = second refl e
 by_first P (Err q) w r first second e = first e
 
 -- a refusal of a required test is the one that is required, and the test fails
-pub by_test : (P : Refusal → Type 0) (q : Refusal) (b : Bool) (r : Refusal) → (b ≡ false → P q) → require q b ≡ Err r → P r
+pub by_test : (P : Refusal → Type 0) (q : Refusal) (b : Bool) (r : Refusal) → (b ≡ false → P q) → require q b ≡ Err r
+    → P r
 by_test P q true r fails e = absurd (refused r (sym e))
 by_test P q false r fails e = let same : q ≡ r = cc in subst P same (fails refl)
 

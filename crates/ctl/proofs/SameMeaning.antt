@@ -1,10 +1,30 @@
--- A formula means the same over two step relations that agree on a set of states which no step leaves: a fullpath from such a state stays in it, and is
--- a fullpath of both.
+-- A formula means the same over two step relations that agree on a set of states which no step leaves: a fullpath
+-- from such a state stays in it, and is a fullpath of both.
 use Prim.Native.Nat.{ℕ, zero, suc}
 use mathlib.Core.Logic.{⊎_map}
 use Rattle.table.specs.declared.operator.Family.{Family}
 use Rattle.table.specs.declared.operator.Family.TheVariants.{Release, Until, Eventually, Always}
-use Rattle.ctl.specs.Meaning.{Formula, bottom, top, proposition, neg, both, either, ax, ex, av, ev, au, eu, af, ef, ag, eg, Fullpath, Holds}
+use Rattle.ctl.specs.Meaning.{
+  Formula,
+  bottom,
+  top,
+  proposition,
+  neg,
+  both,
+  either,
+  ax,
+  ex,
+  av,
+  ev,
+  au,
+  eu,
+  af,
+  ef,
+  ag,
+  eg,
+  Fullpath,
+  Holds,
+}
 use Rattle.ctl.specs.Rule.{Quantifier, every, some}
 use Rattle.ctl.specs.OnPaths.{OnPaths, Along}
 
@@ -18,7 +38,8 @@ module _ {R : ℕ → Type 0} where
   swap : {next other : ℕ → ℕ → Type 0} → Agree R next other → Agree R other next
   swap g = record { there = g.back; back = g.there; stays = λ s t r h. g.stays s t r (g.back s t r h) }
 
-  module _ {next other : ℕ → ℕ → Type 0} (g : Agree R next other) {s : ℕ} (r : R s) {π : ℕ → ℕ} (path : Fullpath next s π) where
+  module _ {next other : ℕ → ℕ → Type 0} (g : Agree R next other) {s : ℕ} (r : R s) {π : ℕ → ℕ}
+      (path : Fullpath next s π) where
     -- the path stays in R
     inside : (k : ℕ) → R (π k)
     inside zero = rw path.starts r
@@ -28,7 +49,8 @@ module _ {R : ℕ → Type 0} where
     carried = record { starts = path.starts; steps = λ k. g.there (π k) (π (suc k)) (inside k) (path.steps k) }
 
   -- what follows along a path of R carries over from the fullpaths of the one relation to those of the other
-  on_paths : (q : Quantifier) {next other : ℕ → ℕ → Type 0} → Agree R next other → {s : ℕ} → R s → {P Q : (ℕ → ℕ) → Type 0}
+  on_paths : (q : Quantifier) {next other : ℕ → ℕ → Type 0} → Agree R next other → {s : ℕ} → R s
+      → {P Q : (ℕ → ℕ) → Type 0}
       → ((π : ℕ → ℕ) → ((k : ℕ) → R (π k)) → P π → Q π) → OnPaths q next s P → OnPaths q other s Q
   on_paths every g r up all = λ π path. up π (inside (swap g) r path) (all π (carried (swap g) r path))
   on_paths some g r up p = (p.0, carried g r p.1, up p.0 (inside g r p.1) p.2)
@@ -41,7 +63,8 @@ module _ {R : ℕ → Type 0} where
   along_up Eventually ac bd π in-R e = (e.0, bd (π e.0) (in-R e.0) e.1)
   along_up Always ac bd π in-R always = λ k. bd (π k) (in-R k) (always k)
 
-  pub same_meaning : {next other : ℕ → ℕ → Type 0} → Agree R next other → (labelled : ℕ → ℕ → Type 0) (φ : Formula) (s : ℕ) → R s
+  pub same_meaning : {next other : ℕ → ℕ → Type 0} → Agree R next other
+      → (labelled : ℕ → ℕ → Type 0) (φ : Formula) (s : ℕ) → R s
       → Holds next labelled φ s → Holds other labelled φ s
   unfolding Holds
   same_meaning g L bottom s r x = x

@@ -5,7 +5,7 @@ use mathlib.Core.Bool.{Bool, true, false, cond, false≢true}
 use mathlib.Core.Logic.{◌↔◌, ◌⊎◌, inr, ⊎_elim, ⊎_map}
 use mathlib.Core.List.Memᴰ
 use mathlib.Core.List.{List, [], ◌∷◌, Memᴰ}
-use Rattle.ctl.specs.Levels.{below, select}
+use Rattle.ctl.specs.Range.{below, select}
 use Rattle.ctl.proofs.Tabulate.{member_tabulate, tabulate_member}
 
 -- the numbers below n
@@ -13,7 +13,8 @@ pub in_below : (n k : ℕ) → Memᴰ k (below n) ↔ (k < n)
 in_below n k = (λ m. let r = tabulate_member n (λ k. k) m in rw r.2 r.1, member_tabulate n (λ k. k) k)
 
 -- an element more in front where a test passes
-pub in_cond : {A : Type 0} {y : A} (b : Bool) (x : A) (xs : List A) → Memᴰ y (cond b (x ∷ xs) xs) ↔ (((b ≡ true) × (y ≡ x)) ⊎ Memᴰ y xs)
+pub in_cond : {A : Type 0} {y : A} (b : Bool) (x : A) (xs : List A)
+    → Memᴰ y (cond b (x ∷ xs) xs) ↔ (((b ≡ true) × (y ≡ x)) ⊎ Memᴰ y xs)
 in_cond true x xs = (λ m. ⊎_map (λ e. (refl, e)) (λ r. r) (Memᴰ.cases_cons m), ⊎_elim (λ r. Memᴰ.head r.1) Memᴰ.tail)
 in_cond false x xs = (inr, ⊎_elim (λ r. absurd (false≢true r.0)) (λ m. m))
 
@@ -26,5 +27,6 @@ in_select p (x ∷ ks) k = (
       (λ r. (Memᴰ.head r.1, ap p r.1 ∙ r.0))
       (λ m'. let r = (in_select p ks k).0 m' in (Memᴰ.tail r.0, r.1))
       ((in_cond (p x) x (select p ks)).0 m),
-  λ r. (in_cond (p x) x (select p ks)).1 (⊎_map (λ e. (sym (ap p e) ∙ r.1, e)) (λ m. (in_select p ks k).1 (m, r.1)) (Memᴰ.cases_cons r.0)),
+  λ r. (in_cond (p x) x (select p ks)).1
+      (⊎_map (λ e. (sym (ap p e) ∙ r.1, e)) (λ m. (in_select p ks k).1 (m, r.1)) (Memᴰ.cases_cons r.0)),
 )

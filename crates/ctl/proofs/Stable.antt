@@ -1,6 +1,6 @@
 -- The levels of a monotone step are stable after n steps, whether they fall or rise.
--- A rising chain keeps the marks that are true, a falling chain those that are false. So the kept marks are counted: each step that
--- changes something adds to the count, and the count is at most n.
+-- A rising chain keeps the marks that are true, a falling chain those that are false. So the kept marks are counted:
+-- each step that changes something adds to the count, and the count is at most n.
 use Prim.Native.Nat.{ℕ, zero, suc, ◌+◌, ◌≤◌, ◌<◌, zero-le, suc-le-suc}
 use native.Mathlib.Nat.{le_trans}
 use native.Mathlib.Decide.{dec_lt}
@@ -75,7 +75,8 @@ count_grows v [] (y ∷ Y) e k = absurd (omega arith)
 count_grows v (x ∷ X) [] e k = absurd (omega arith)
 count_grows v (x ∷ X) (y ∷ Y) e k = go (weight_grows v x y (k zero)) (count_grows v X Y (omega arith) (λ s. k (suc s)))
   where
-    go : (x ≡ y) ⊎ (weight v x < weight v y) → (X ≡ Y) ⊎ (count v X < count v Y) → (x ∷ X ≡ y ∷ Y) ⊎ (count v (x ∷ X) < count v (y ∷ Y))
+    go : (x ≡ y) ⊎ (weight v x < weight v y) → (X ≡ Y) ⊎ (count v X < count v Y)
+        → (x ∷ X ≡ y ∷ Y) ⊎ (count v (x ∷ X) < count v (y ∷ Y))
     go (inl h) (inl t) = inl (cc)
     go (inl h) (inr t) = inr (omega (arith, ap (weight v) h))
     go (inr h) (inl t) = inr (omega (arith, ap (count v) t))
@@ -83,7 +84,8 @@ count_grows v (x ∷ X) (y ∷ Y) e k = go (weight_grows v x y (k zero)) (count_
 
 -- ---- a chain of levels that keeps the marks v
 
-module _ (n : ℕ) (F : List Bool → List Bool) (X : List Bool) (start : length X ≡ n) (size : (Y : List Bool) → length (F Y) ≡ n) (mono : Monotone F)
+module _ (n : ℕ) (F : List Bool → List Bool) (X : List Bool) (start : length X ≡ n)
+    (size : (Y : List Bool) → length (F Y) ≡ n) (mono : Monotone F)
     (v : Bool) (first : Keeps v X (F X)) where
   level_size_lem : (k : ℕ) → length (iterate F X k) ≡ n
   unfolding iterate
@@ -96,7 +98,8 @@ module _ (n : ℕ) (F : List Bool → List Bool) (X : List Bool) (start : length
   chain (suc k) = step_keeps v F mono (iterate F X k) (iterate F X (suc k)) (chain k)
 
   -- a level k with at least k marks v is stable, or the next has more than k
-  grows : (k : ℕ) → k ≤ count v (iterate F X k) → (iterate F X (suc k) ≡ iterate F X k) ⊎ (k < count v (iterate F X (suc k)))
+  grows : (k : ℕ) → k ≤ count v (iterate F X k)
+      → (iterate F X (suc k) ≡ iterate F X k) ⊎ (k < count v (iterate F X (suc k)))
   grows k h = ⊎_map sym (λ (l : count v (iterate F X k) < count v (iterate F X (suc k))). le_trans (suc-le-suc h) l)
       (count_grows v (iterate F X k) (iterate F X (suc k)) (level_size_lem k ∙ sym (level_size_lem (suc k))) (chain k))
 
@@ -107,10 +110,13 @@ module _ (n : ℕ) (F : List Bool → List Bool) (X : List Bool) (start : length
   stable_or_more (suc k) = ⊎_elim (λ e. inl (ap F e)) (grows (suc k)) (stable_or_more k)
 
   stable_chain : iterate F X (suc n) ≡ iterate F X n
-  stable_chain = ⊎_elim (λ e. e) (λ l. absurd (omega (arith, l, count_le v (iterate F X (suc n)), level_size_lem (suc n)))) (stable_or_more n)
+  stable_chain =
+      ⊎_elim (λ e. e) (λ l. absurd (omega (arith, l, count_le v (iterate F X (suc n)), level_size_lem (suc n))))
+      (stable_or_more n)
 
 -- The levels of a monotone step are stable after n steps.
-pub stable : (n : ℕ) (F : List Bool → List Bool) (X : List Bool) → length X ≡ n → ((Y : List Bool) → length (F Y) ≡ n) → Monotone F
+pub stable : (n : ℕ) (F : List Bool → List Bool) (X : List Bool) → length X ≡ n → ((Y : List Bool) → length (F Y) ≡ n)
+    → Monotone F
     → (Subset (F X) X ⊎ Subset X (F X)) → iterate F X (suc n) ≡ iterate F X n
 stable n F X start size mono (inl falls) = stable_chain n F X start size mono false (flip_keeps true (F X) X falls)
 stable n F X start size mono (inr rises) = stable_chain n F X start size mono true rises
@@ -126,10 +132,12 @@ has_inside X s e = go (dec_lt s (length X))
     go (no h) = absurd (false≢true (sym (get_or-eq_default X false {n = s} (omega (arith, h))) ∙ e))
 
 -- AX and EX of a larger set hold where those of the smaller do
-next_monotone : (q : Quantifier) (X Y : List Bool) (ts : List ℕ) → Subset X Y → next_in q X ts ≡ true → next_in q Y ts ≡ true
+next_monotone : (q : Quantifier) (X Y : List Bool) (ts : List ℕ) → Subset X Y → next_in q X ts ≡ true
+    → next_in q Y ts ≡ true
 unfolding next_in all
 next_monotone every X Y [] sub e = e
-next_monotone every X Y (t ∷ ts) sub e = (all_true (has Y) (t ∷ ts)).1 (λ u m. sub u ((all_true (has X) (t ∷ ts)).0 e u m))
+next_monotone every X Y (t ∷ ts) sub e =
+    (all_true (has Y) (t ∷ ts)).1 (λ u m. sub u ((all_true (has X) (t ∷ ts)).0 e u m))
 next_monotone some X Y ts sub e = let r = (any-true (has X) ts).0 e in (any-true (has Y) ts).1 (r.0, r.1, sub r.0 r.2)
 
 module _ (f : Family) (q : Quantifier) (targets : ℕ → List ℕ) (n : ℕ) (A B : List Bool) where
@@ -139,7 +147,8 @@ module _ (f : Family) (q : Quantifier) (targets : ℕ → List ℕ) (n : ℕ) (A
   level-length X = length_tabulate n _
 
   -- the mark of a state in a level
-  pub level_mark : (X : List Bool) (s : ℕ) → s < n → has (level f q targets n A B X) s ≡ joined f (has A s) (has B s) (next_in q X (targets s))
+  pub level_mark : (X : List Bool) (s : ℕ) → s < n
+      → has (level f q targets n A B X) s ≡ joined f (has A s) (has B s) (next_in q X (targets s))
   unfolding level
   level_mark X s h = get_d_tabulate n _ s false h
 
@@ -151,7 +160,8 @@ module _ (f : Family) (q : Quantifier) (targets : ℕ → List ℕ) (n : ℕ) (A
   level_monotone : Monotone (level f q targets n A B)
   level_monotone X Y sub s e =
       let h = level_inside X s e in
-      rw (level_mark Y s h) (joined_up f (has A s) (has B s) _ _ (next_monotone q X Y (targets s) sub) (rw (level_mark X s h) at e))
+      rw (level_mark Y s h) (joined_up f (has A s) (has B s) _ _ (next_monotone q X Y (targets s) sub)
+      (rw (level_mark X s h) at e))
 
   -- the first level lies in level 0, or has all of it
   first_step : length B ≡ n → Subset (level f q targets n A B B) B ⊎ Subset B (level f q targets n A B B)

@@ -1,5 +1,5 @@
--- A repair, struck, is a repair in the narrower sense: of the reached states it loses no step, so these are reached as before and the rule means the
--- same at them; of the others it keeps none.
+-- A repair, struck, is a repair in the narrower sense: of the reached states it loses no step, so these are reached
+-- as before and the rule means the same at them; of the others it keeps none.
 use Prim.Native.Nat.{ℕ, zero, suc, ◌≤◌, ◌<◌, zero-le}
 use native.Mathlib.Omega.{arith}
 use mathlib.Core.Path.{◌≡◌, refl, sym, ap, ◌∙◌}
@@ -23,7 +23,8 @@ module _ (T : Table) (list : List ℕ) where
   strike-length = length_tabulate (length T.steps) _
 
   -- the byte of a step, struck or as it was
-  pub strike_at : (j : ℕ) → j < length T.steps → get_or (strike T list) j 0 ≡ cond (is_reached T list (step_at T j).from) (get_or list j 0) 0
+  pub strike_at : (j : ℕ) → j < length T.steps
+      → get_or (strike T list) j 0 ≡ cond (is_reached T list (step_at T j).from) (get_or list j 0) 0
   unfolding strike
   strike_at j h = get_d_tabulate (length T.steps) _ j 0 h
 
@@ -41,7 +42,8 @@ module _ (T : Table) (wf : Wellformed T) (list : List ℕ) where
   -- the steps out of reached states are left, and no other
   left_reached : (s t : ℕ) → Next T (strike T list) s t → Next T list s t × Reached T list s
   left_reached s t h =
-      let r = left_of (is_reached T list (step_at T h.step).from) _ (sym (strike_at T list h.step h.listed) ∙ h.kept) in (
+      let from = (step_at T h.step).from in
+      let r = left_of (is_reached T list from) _ (sym (strike_at T list h.step h.listed) ∙ h.kept) in (
         record { step = h.step; listed = h.listed; kept = r.1; leaves = h.leaves; enters = h.enters },
         (is_reached_lem T wf list s).0 (rw h.leaves at r.0),
       )
@@ -51,7 +53,8 @@ module _ (T : Table) (wf : Wellformed T) (list : List ℕ) where
     step = h.step;
     listed = h.listed;
     kept = strike_at T list h.step h.listed
-        ∙ ap (λ (b : Bool). cond b (get_or list h.step 0) 0) (ap (is_reached T list) h.leaves ∙ (is_reached_lem T wf list s).1 r)
+        ∙ ap (λ (b : Bool). cond b (get_or list h.step 0) 0)
+        (ap (is_reached T list) h.leaves ∙ (is_reached_lem T wf list s).1 r)
         ∙ h.kept;
     leaves = h.leaves;
     enters = h.enters;
@@ -81,11 +84,14 @@ module _ (T : Table) (wf : Wellformed T) (list : List ℕ) where
     repair = record {
       form = record {
         size = strike-length T list;
-        bits = λ j h. let l = rw (strike-length T list) at h in rw (strike_at T list j l) (bit_or_0 (is_reached T list (step_at T j).from) _ (R.form.bits j (rw R.form.size l)));
+        bits = λ j h. let l = rw (strike-length T list) at h in
+            rw (strike_at T list j l) (bit_or_0 (is_reached T list (step_at T j).from) _
+            (R.form.bits j (rw R.form.size l)));
       };
       total = λ s t h. let l = left_reached s t h in kept_left t (reached_on T list s t l.1 l.0) (R.total s t l.0);
       starts = let r = R.starts in (r.0, r.1, kept_left r.0 (start r.0 r.1 r.2) r.2);
-      rule = λ s i k. let k' = left_kept s k in same_meaning agree (Labelled T) (formula T (root_index T)) s (start s i k') (R.rule s i k');
+      rule = λ s i k. let k' = left_kept s k in
+          same_meaning agree (Labelled T) (formula T (root_index T)) s (start s i k') (R.rule s i k');
     };
     reached = λ s t h. let r = (left_reached s t h).1 in (r.0, still_reached r.0 s r.1);
   }
@@ -93,12 +99,16 @@ module _ (T : Table) (wf : Wellformed T) (list : List ℕ) where
 pub strike-is_exact : StrikeIsExact
 strike-is_exact T wf list = record {
   size = strike-length T list;
-  reached = λ j h r. strike_at T list j h ∙ ap (λ (b : Bool). cond b (get_or list j 0) 0) ((is_reached_lem T wf list (step_at T j).from).1 r);
-  unreached = λ j h d. strike_at T list j h ∙ ap (λ (b : Bool). cond b (get_or list j 0) 0) (not_so _ (λ e. d ((is_reached_lem T wf list (step_at T j).from).0 e)));
+  reached = λ j h r. strike_at T list j h
+      ∙ ap (λ (b : Bool). cond b (get_or list j 0) 0) ((is_reached_lem T wf list (step_at T j).from).1 r);
+  unreached = λ j h d. strike_at T list j h
+      ∙ ap (λ (b : Bool). cond b (get_or list j 0) 0)
+      (not_so _ (λ e. d ((is_reached_lem T wf list (step_at T j).from).0 e)));
 }
 
 pub striking_narrows : StrikingNarrows
 striking_narrows = narrow
 
 pub senses_agree : SensesAgree
-senses_agree T wf = (λ none list r. none list r.repair, λ none list r. none (strike T list) (striking_narrows T wf list r))
+senses_agree T wf =
+    (λ none list r. none list r.repair, λ none list r. none (strike T list) (striking_narrows T wf list r))

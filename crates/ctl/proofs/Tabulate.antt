@@ -9,7 +9,7 @@ use mathlib.Core.List.Memᴰ
 use mathlib.Core.List.{List, [], ◌∷◌, Memᴰ}
 use lib.ListN.{length, get_or, take, get_or-eq_default}
 use Rattle.table.specs.Accept.{all, any}
-use Rattle.ctl.specs.Levels.{tabulate}
+use Rattle.ctl.specs.Range.{tabulate}
 
 module _ {ℓ} {A : Type ℓ} where
   -- n elements
@@ -34,7 +34,8 @@ module _ {ℓ} {A : Type ℓ} where
   unfolding tabulate
   take_tabulate zero n f h = refl
   take_tabulate (suc k) zero f h = absurd (not-suc-le-zero h)
-  take_tabulate (suc k) (suc n) f h = ap (λ (xs : List A). f zero ∷ xs) (take_tabulate k n (λ i. f (suc i)) (le_of_suc-le-suc h))
+  take_tabulate (suc k) (suc n) f h =
+      ap (λ (xs : List A). f zero ∷ xs) (take_tabulate k n (λ i. f (suc i)) (le_of_suc-le-suc h))
 
   in_tail : {P : A → Type 0} {x : A} {xs : List A} → (y : A) × Memᴰ y xs × P y → (y : A) × Memᴰ y (x ∷ xs) × P y
   in_tail r = (r.0, Memᴰ.tail r.1, r.2)
@@ -47,7 +48,8 @@ module _ {ℓ} {A : Type ℓ} where
   all_of : (p : A → Bool) (xs : List A) → ((x : A) → Memᴰ x xs → p x ≡ true) → all p xs ≡ true
   unfolding all
   all_of p [] h = refl
-  all_of p (x ∷ xs) h = (and-eq-true_iff (p x) (all p xs)).1 (h x (Memᴰ.head refl), all_of p xs (λ y m. h y (Memᴰ.tail m)))
+  all_of p (x ∷ xs) h =
+      (and-eq-true_iff (p x) (all p xs)).1 (h x (Memᴰ.head refl), all_of p xs (λ y m. h y (Memᴰ.tail m)))
 
   -- `all` is true: every member has p
   pub all_true : (p : A → Bool) (xs : List A) → (all p xs ≡ true) ↔ ((x : A) → Memᴰ x xs → p x ≡ true)
@@ -59,7 +61,8 @@ module _ {ℓ} {A : Type ℓ} where
   all-false p [] e = absurd (true≢false e)
   all-false p (x ∷ xs) e = go (p x) refl e (λ e'. all-false p xs e')
     where
-      go : (b : Bool) → p x ≡ b → b && all p xs ≡ false → (all p xs ≡ false → (y : A) × Memᴰ y xs × (p y ≡ false)) → (y : A) × Memᴰ y (x ∷ xs) × (p y ≡ false)
+      go : (b : Bool) → p x ≡ b → b && all p xs ≡ false → (all p xs ≡ false → (y : A) × Memᴰ y xs × (p y ≡ false))
+          → (y : A) × Memᴰ y (x ∷ xs) × (p y ≡ false)
       go true h e' rest = in_tail (rest e')
       go false h e' rest = (x, Memᴰ.head refl, h)
 
@@ -73,7 +76,8 @@ module _ {ℓ} {A : Type ℓ} where
   any_search p [] e = absurd (false≢true e)
   any_search p (x ∷ xs) e = go (p x) refl e (λ e'. any_search p xs e')
     where
-      go : (b : Bool) → p x ≡ b → b || any p xs ≡ true → (any p xs ≡ true → (y : A) × Memᴰ y xs × (p y ≡ true)) → (y : A) × Memᴰ y (x ∷ xs) × (p y ≡ true)
+      go : (b : Bool) → p x ≡ b → b || any p xs ≡ true → (any p xs ≡ true → (y : A) × Memᴰ y xs × (p y ≡ true))
+          → (y : A) × Memᴰ y (x ∷ xs) × (p y ≡ true)
       go true h e' rest = (x, Memᴰ.head refl, h)
       go false h e' rest = in_tail (rest e')
 

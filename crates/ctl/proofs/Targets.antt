@@ -34,18 +34,26 @@ kept_place_lem (x ∷ xs) (b ∷ bits) m = ⊎_elim
     ((in_cond (eqb b 1) x (kept_steps xs bits)).0 m)
 
 -- the step at a place that the list keeps is a kept step
-place_kept : (xs : List Step) (bits : List ℕ) (j : ℕ) → j < length xs → get_or bits j 0 ≡ 1 → Memᴰ (get_or xs j zero_step) (kept_steps xs bits)
+place_kept : (xs : List Step) (bits : List ℕ) (j : ℕ) → j < length xs → get_or bits j 0 ≡ 1
+    → Memᴰ (get_or xs j zero_step) (kept_steps xs bits)
 unfolding kept_steps
 place_kept [] bits j h e = absurd (not-suc-le-zero h)
 place_kept (x ∷ xs) [] j h e = absurd (omega arith)
 place_kept (x ∷ xs) (b ∷ bits) zero h e = (in_cond (eqb b 1) x _).1 (inl (eq-eqb b 1 e, refl))
-place_kept (x ∷ xs) (b ∷ bits) (suc j) h e = (in_cond (eqb b 1) x _).1 (inr (place_kept xs bits j (le_of_suc-le-suc h) e))
+place_kept (x ∷ xs) (b ∷ bits) (suc j) h e =
+    (in_cond (eqb b 1) x _).1 (inr (place_kept xs bits j (le_of_suc-le-suc h) e))
 
 -- a kept step leads from its one end to the other
 pub kept_step_next : (T : Table) (list : List ℕ) (x : Step) → Memᴰ x (kept_steps T.steps list) → Next T list x.from x.to
 kept_step_next T list x m =
     let r = kept_place_lem T.steps list m in
-    record { step = r.0; listed = r.1; kept = r.2; leaves = ap (λ (y : Step). y.from) r.3; enters = ap (λ (y : Step). y.to) r.3 }
+    record {
+      step = r.0;
+      listed = r.1;
+      kept = r.2;
+      leaves = ap (λ (y : Step). y.from) r.3;
+      enters = ap (λ (y : Step). y.to) r.3;
+    }
 
 -- where a kept step leads from s to t, it is one of the kept steps
 pub next_kept_step : (T : Table) (list : List ℕ) (s t : ℕ) → Next T list s t
@@ -55,7 +63,8 @@ next_kept_step T list s t h = (step_at T h.step, place_kept T.steps list h.step 
 -- ---- the next states
 
 -- an end of the steps out of s, and the step
-pub ends_step : (xs : List Step) (s : ℕ) {t : ℕ} → Memᴰ t (ends_from xs s) → (x : Step) × Memᴰ x xs × (x.from ≡ s) × (x.to ≡ t)
+pub ends_step : (xs : List Step) (s : ℕ) {t : ℕ} → Memᴰ t (ends_from xs s)
+    → (x : Step) × Memᴰ x xs × (x.from ≡ s) × (x.to ≡ t)
 unfolding ends_from
 ends_step [] s m = absurd (Memᴰ.not-nil m)
 ends_step (x ∷ xs) s m = ⊎_elim
@@ -93,8 +102,10 @@ is_kept_lem T list s = (
 )
 
 -- the ends of a kept step are states
-pub next_inside : (T : Table) → Wellformed T → (list : List ℕ) (s t : ℕ) → Next T list s t → (s < length T.states) × (t < length T.states)
-next_inside T wf list s t h = (rw h.leaves at (wf.from_state h.step h.listed), rw h.enters at (wf.to_state h.step h.listed))
+pub next_inside : (T : Table) → Wellformed T → (list : List ℕ) (s t : ℕ) → Next T list s t
+    → (s < length T.states) × (t < length T.states)
+next_inside T wf list s t h =
+    (rw h.leaves at (wf.from_state h.step h.listed), rw h.enters at (wf.to_state h.step h.listed))
 
 -- a state with no next state has neither AX nor EX
 pub next_of_kept : (q : Quantifier) (Y : List Bool) (ts : List ℕ) → next_in q Y ts ≡ nonempty ts && next_in q Y ts

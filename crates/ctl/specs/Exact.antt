@@ -1,5 +1,5 @@
--- What labels promise: over infinite paths they are the meaning of the rule. What striking promises of a repair, and what
--- the judge's tests promise of any bytes. Each statement is the contract of a law (src/laws.rt).
+-- What labels promise: over infinite paths they are the meaning of the rule. What striking promises of a repair, and
+-- what the judge's tests promise of any bytes. Each statement is the contract of a law (src/laws.rt).
 use Rattle.std.specs.Prelude.{ℕ, ◌<◌, ◌≡◌, Bool, true, ◌↔◌, ◌⊎◌, List, length, Ok, Err}
 use Rattle.table.specs.declared.operator.Family.{Family}
 use Rattle.table.specs.declared.refusal.Refusal.{Refusal}
@@ -30,13 +30,16 @@ StrikeIsExact = (T : Table) → Wellformed T → (list : List ℕ) → Struck T 
 abbrev pub StrikingNarrows : Type 0
 StrikingNarrows = (T : Table) → Wellformed T → (list : List ℕ) → Repair T list → NarrowRepair T (strike T list)
 
--- So a table has a repair in the one sense just when it has one in the other: strike the one, or take the other as it is.
+-- So a table has a repair in the one sense just when it has one in the other: strike the one, or take the other as it
+-- is.
 abbrev pub SensesAgree : Type 0
-SensesAgree = (T : Table) → Wellformed T → ((list : List ℕ) → ¬ Repair T list) ↔ ((list : List ℕ) → ¬ NarrowRepair T list)
+SensesAgree =
+    (T : Table) → Wellformed T → ((list : List ℕ) → ¬ Repair T list) ↔ ((list : List ℕ) → ¬ NarrowRepair T list)
 
 -- the judge accepts exactly the repairs in the narrower sense
 abbrev pub JudgeIsExact : Type 0
-JudgeIsExact = (table list : List ℕ) → (judge_verdict table list ≡ Ok tt) ↔ (IsTable table × NarrowRepair (table_of table) list)
+JudgeIsExact =
+    (table list : List ℕ) → (judge_verdict table list ≡ Ok tt) ↔ (IsTable table × NarrowRepair (table_of table) list)
 
 -- and where it refuses, the refusal says what fails, and all that is tested before it holds
 abbrev pub JudgeRefusesRightly : Type 0
@@ -45,10 +48,11 @@ JudgeRefusesRightly = (table list : List ℕ) (r : Refusal) → judge_verdict ta
 -- the formula of a node is its operator on the formulas of its children
 abbrev pub FormulaOfNode : Type 0
 FormulaOfNode =
-    (T : Table) → Wellformed T → (i : ℕ) → i < length T.nodes → formula T i ≡ formula_of (operator_of (node_at T i)) (formula T)
+    (T : Table) → Wellformed T → (i : ℕ) → i < length T.nodes
+    → formula T i ≡ formula_of (operator_of (node_at T i)) (formula T)
 
--- The level argument: for any sets of states, the last level of a fixed-point kind has a kept state exactly when the kind
--- holds along the fullpaths of kept steps from that state, of the sets.
+-- The level argument: for any sets of states, the last level of a fixed-point kind has a kept state exactly when the
+-- kind holds along the fullpaths of kept steps from that state, of the sets.
 abbrev pub LevelsArePaths : Type 0
 LevelsArePaths =
     (T : Table) → Wellformed T → (list : List ℕ) → Total T list → (f : Family) (q : Quantifier) (A B : List Bool)

@@ -1,4 +1,5 @@
--- 01, "Kept lists and path meaning", and 02, A3: which steps and states a list keeps, which states it reaches, and when it is a repair.
+-- Which steps and states a list keeps, which states it reaches, and when it is a repair: Specification, "Kept lists"
+-- and "Repairs".
 use Rattle.std.specs.Prelude.{ℕ, zero, suc, ◌≤◌, ◌<◌, ◌≡◌, true, List, length, get_or}
 use Rattle.sets.specs.Member.{member}
 use Rattle.table.specs.Table.{Table, state_at, step_at}
@@ -42,14 +43,16 @@ unfoldable pub ReachedIn : Table → List ℕ → ℕ → ℕ → Type 0
 ReachedIn T list zero s = Initial T s × Kept T list s
 ReachedIn T list (suc k) t = (s : ℕ) × ReachedIn T list k s × Next T list s t
 
--- 02, A3: a state "can be reached from a kept initial state by kept steps". Zero steps count: a kept initial state is reached.
+-- A state is reached where kept steps lead to it from a kept initial state. Zero steps count: a kept initial state is
+-- reached.
 abbrev pub Reached : Table → List ℕ → ℕ → Type 0
 Reached T list s = (k : ℕ) × ReachedIn T list k s
 
--- 02, A3: "strikes every step that breaks this". What leaves a state that is reached is as before, and every other step is struck.
+-- One list struck is the other: what leaves a state that is reached is as before, and every other step is struck.
 pub record Struck (T : Table) (before after : List ℕ) : Type 0 where
   pub size : length after ≡ length T.steps
-  pub reached : (j : ℕ) → j < length T.steps → Reached T before (step_at T j).from → get_or after j 0 ≡ get_or before j 0
+  pub reached : (j : ℕ) → j < length T.steps → Reached T before (step_at T j).from
+      → get_or after j 0 ≡ get_or before j 0
   pub unreached : (j : ℕ) → j < length T.steps → ¬ Reached T before (step_at T j).from → get_or after j 0 ≡ 0
 
 -- the parts of a repair besides its form and that it is total: an initial state is kept,

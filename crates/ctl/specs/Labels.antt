@@ -4,7 +4,8 @@ use Rattle.sets.specs.Member.{member}
 use Rattle.table.specs.declared.record.Step.{Step}
 use Rattle.table.specs.Table.{Table, state_at}
 use Rattle.ctl.specs.Rule.{Operator, constant, atom, negation, conjunction, disjunction, next, fixpoint, bottom_up}
-use Rattle.ctl.specs.Levels.{has, tabulate, next_in, levels}
+use Rattle.ctl.specs.Range.{tabulate}
+use Rattle.ctl.specs.Levels.{has, next_in, levels}
 
 -- the steps that the list keeps
 unfoldable pub kept_steps : List Step → List ℕ → List Step

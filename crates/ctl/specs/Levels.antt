@@ -1,8 +1,9 @@
 -- Sets of states that compute, and the levels of a fixed-point kind. A set of n states is the list of its n marks.
-use Rattle.std.specs.Prelude.{ℕ, zero, suc, ◌≡◌, Bool, true, false, cond, ◌&&◌, ◌||◌, List, [], ◌∷◌, get_or}
+use Rattle.std.specs.Prelude.{ℕ, zero, suc, ◌≡◌, Bool, true, false, ◌&&◌, ◌||◌, List, [], ◌∷◌, get_or}
 use Rattle.table.specs.declared.operator.Family.{Family}
 use Rattle.table.specs.declared.operator.Family.TheVariants.{Release, Until, Eventually, Always}
 use Rattle.table.specs.Accept.{all, any}
+use Rattle.ctl.specs.Range.{tabulate}
 use Rattle.ctl.specs.Rule.{Quantifier, every, some}
 
 abbrev pub has : List Bool → ℕ → Bool
@@ -11,20 +12,6 @@ has X s = get_or X s false
 -- every state of X is in Y
 abbrev pub Subset : List Bool → List Bool → Type 0
 Subset X Y = (s : ℕ) → has X s ≡ true → has Y s ≡ true
-
--- f 0, .., f (n - 1)
-unfoldable pub tabulate {ℓ} : {A : Type ℓ} → ℕ → (ℕ → A) → List A
-tabulate zero f = []
-tabulate (suc n) f = f zero ∷ tabulate n (λ k. f (suc k))
-
--- 0, .., n - 1
-abbrev pub below : ℕ → List ℕ
-below n = tabulate n (λ k. k)
-
--- those of the numbers that have p
-unfoldable pub select : (ℕ → Bool) → List ℕ → List ℕ
-select p [] = []
-select p (k ∷ ks) = cond (p k) (k ∷ select p ks) (select p ks)
 
 unfoldable pub iterate : (List Bool → List Bool) → List Bool → ℕ → List Bool
 iterate F X zero = X
@@ -36,8 +23,8 @@ next_in every X [] = false
 next_in every X (t ∷ ts) = has X t && all (has X) ts
 next_in some X ts = any (has X) ts
 
--- What a level joins at a state, by its family: the marks of a and b there, and what the next states say of the level below. F is U with a true
--- everywhere, and G is V with a false everywhere.
+-- What a level joins at a state, by its family: the marks of a and b there, and what the next states say of the level
+-- below. F is U with a true everywhere, and G is V with a false everywhere.
 abbrev pub joined : Family → Bool → Bool → Bool → Bool
 joined Release a b next = b && (a || next)
 joined Until a b next = b || (a && next)

@@ -1,4 +1,4 @@
--- What a formula of CTL means at a state, over infinite paths: 01, "Kept lists and path meaning".
+-- What a formula of CTL means at a state, over infinite paths: Specification, "Rules".
 use Rattle.std.specs.Prelude.{ℕ, zero, suc, ◌<◌, ◌≡◌, ◌⊎◌}
 
 -- A rule, as the tree that its root node unfolds to: kinds 0 to 15 in order.
@@ -31,7 +31,8 @@ EventuallyAlong b π = (k : ℕ) × b (π k)
 abbrev pub AlwaysAlong : (ℕ → Type 0) → (ℕ → ℕ) → Type 0
 AlwaysAlong b π = (k : ℕ) → b (π k)
 
--- The formula holds at s, in the structure of the kept steps and the labels. `labelled s p`: proposition p is in the label of s
+-- The formula holds at s, in the structure of the kept steps and the labels. `labelled s p`: proposition p is in the
+-- label of s
 module _ (next : ℕ → ℕ → Type 0) (labelled : ℕ → ℕ → Type 0) where
   unfoldable pub Holds : Formula → ℕ → Type 0
   Holds bottom s = ⊥

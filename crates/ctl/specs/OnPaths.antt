@@ -1,4 +1,5 @@
--- What a fixed-point kind says of the fullpaths from a state: its quantifier ranges over them, and its family speaks of each.
+-- What a fixed-point kind says of the fullpaths from a state: its quantifier ranges over them, and its family speaks
+-- of each.
 use Rattle.std.specs.Prelude.{ℕ}
 use Rattle.table.specs.declared.operator.Family.{Family}
 use Rattle.table.specs.declared.operator.Family.TheVariants.{Release, Until, Eventually, Always}

@@ -1,4 +1,4 @@
--- 02, A4: what striking steps costs.
+-- What striking steps costs: Specification, "Kept lists".
 use Rattle.std.specs.Prelude.{ℕ, zero, suc, ◌+◌, Bool, cond, List, eqb, length, get_or}
 use Rattle.table.specs.Table.{Table, step_at}
 
@@ -11,6 +11,6 @@ sum_below (suc n) f = sum_below n f + f n
 abbrev pub struck_price : Table → (ℕ → Bool) → ℕ
 struck_price T struck = sum_below (length T.steps) (λ j. cond (struck j) (step_at T j).price 0)
 
--- "The price of a list is the sum over struck steps"
+-- the price of a list: that of its struck steps, which are the 0s
 abbrev pub list_price : Table → List ℕ → ℕ
 list_price T list = struck_price T (λ j. eqb (get_or list j 0) 0)

@@ -1,4 +1,5 @@
--- The order of kept lists: 01, "Of two lists, that which keeps the lowest-numbered step where they differ ranks first", and 02, A4, price before rank.
+-- The order of kept lists (Specification, "Kept lists"): of two, the one ranks first that keeps the lowest-numbered
+-- step in which they differ. The price comes before the rank.
 use Rattle.std.specs.Prelude.{ℕ, ◌≤◌, ◌<◌, ◌≡◌, List, length, get_or}
 
 -- l ranks before m: they agree below a step that l keeps and m strikes
@@ -14,7 +15,7 @@ pub record First (P : List ℕ → Type 0) (l : List ℕ) : Type 0 where
   pub member : P l
   pub before : (m : List ℕ) → P m → ¬ (m ≡ l) → RanksBefore l m
 
--- 02, A4: "cheapest, then first in rank". No list in P undercuts the price of l, and of those that have its price l is the first.
+-- Cheapest, then first in rank: no list in P undercuts the price of l, and of those that have its price l is the first.
 pub record Cheapest (price : List ℕ → ℕ) (P : List ℕ → Type 0) (l : List ℕ) : Type 0 where
   pub lowest : (m : List ℕ) → P m → price l ≤ price m
   pub first : First (λ m. P m × (price m ≡ price l)) l

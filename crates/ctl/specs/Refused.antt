@@ -1,14 +1,22 @@
--- What each refusal of a list means, in the words of a repair: which part fails, and that all that is tested before it holds.
+-- What each refusal of a list means, in the words of a repair: which part fails, and that all that is tested before
+-- it holds.
 use Rattle.std.specs.Prelude.{ℕ, ◌≤◌, ◌<◌, List}
 use Rattle.table.specs.declared.refusal.Refusal.{Refusal}
-use Rattle.table.specs.declared.refusal.Refusal.TheVariants.{ListForm, ShortBuffer, NotTotal, NoInitialKept, RootFails, UnreachedStep}
+use Rattle.table.specs.declared.refusal.Refusal.TheVariants.{
+  ListForm,
+  ShortBuffer,
+  NotTotal,
+  NoInitialKept,
+  RootFails,
+  UnreachedStep,
+}
 use Rattle.table.specs.Table.{table_of}
 use Rattle.table.specs.Facts.{IsTable}
 use Rattle.table.specs.Refused.{TableRefused}
 use Rattle.ctl.specs.Kept.{IsList, Total, KeepsInitial, OnlyReached, RuleHolds}
 
--- The judge's refusals. The parts are tested in the order of the list's form, total, an initial state kept, only reached
--- states left, and the rule.
+-- The judge's refusals. The parts are tested in the order of the list's form, total, an initial state kept, only
+-- reached states left, and the rule.
 module _ (table list : List ℕ) where
   abbrev pub JudgeRefused : Refusal → Type 0
   JudgeRefused ListForm = IsTable table × ¬ IsList (table_of table) list

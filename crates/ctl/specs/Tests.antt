@@ -5,7 +5,7 @@ use Rattle.table.specs.Verdict.{Verdict, require, ◌then◌}
 use Rattle.table.specs.Table.{Table, table_of}
 use Rattle.table.specs.Accept.{all, any, table_verdict, list_verdict}
 use Rattle.ctl.specs.Rule.{root_index}
-use Rattle.ctl.specs.Levels.{below}
+use Rattle.ctl.specs.Range.{below}
 use Rattle.ctl.specs.Labels.{kept_steps, is_kept, marked}
 use Rattle.ctl.specs.Reached.{is_initial_kept, is_reached}
 
@@ -28,7 +28,7 @@ leaves_reached T list = all (λ x. is_reached T list x.from) (kept_steps T.steps
 abbrev pub root_marked : Table → List ℕ → Bool
 root_marked T list = all (λ s. not (is_initial_kept T list s) || marked T list (root_index T) s) (states T)
 
--- of a list of the table's form: a repair in 01's sense
+-- of a list of the table's form: a repair in the wider sense
 abbrev pub is_repair : Table → List ℕ → Bool
 is_repair T list = is_total T list && keeps_initial T list && root_marked T list
 

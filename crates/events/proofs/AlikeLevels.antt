@@ -27,7 +27,8 @@ pub record LikeSeen (seen : Option Seen) (look : ℕ) (level below : Row) : Type
   pub below_same : last.below ≡ below
   pub has : (s : ℕ) → member look s ≡ true → member last.look s ≡ true
 
-pub alike_parts : (seen : Option Seen) (look : ℕ) (level below : Row) → alike seen look level below ≡ true → LikeSeen seen look level below
+pub alike_parts : (seen : Option Seen) (look : ℕ) (level below : Row) → alike seen look level below ≡ true
+    → LikeSeen seen look level below
 alike_parts None look level below e = absurd (false≢true e)
 alike_parts (Some r) look level below e =
     let p = and_parts (same_row r.level level && same_row r.below below) (eqb (bit_and look r.look) look) e in
@@ -37,5 +38,6 @@ alike_parts (Some r) look level below e =
       is = refl;
       level_same = same_row_lem r.level level q.0;
       below_same = same_row_lem r.below below q.1;
-      has = λ s m. ((and-true look r.look s).0 (ap (λ (w : ℕ). member w s) (eqb-true (bit_and look r.look) look p.1) ∙ m)).1;
+      has = λ s m. ((and-true look r.look s).0
+          (ap (λ (w : ℕ). member w s) (eqb-true (bit_and look r.look) look p.1) ∙ m)).1;
     }

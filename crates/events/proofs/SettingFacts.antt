@@ -23,13 +23,18 @@ module _ (net : Net) where
 
   -- where all words of the states to look at end
   pub all_words : get_or net.graph.readers.first 32 0 ≡ word_total (table_in net)
-  all_words = net.setting.reads.firsts.at 32 (omega arith) ∙ first_last (table_in net) 32 (omega (arith, wellformed.few_nodes))
+  all_words =
+      net.setting.reads.firsts.at 32 (omega arith) ∙ first_last (table_in net) 32 (omega (arith, wellformed.few_nodes))
 
   -- where those of a node begin
-  pub words_begin : (i : ℕ) → i < length (table_in net).nodes → get_or net.graph.readers.first i 0 ≡ first_word (table_in net) i
+  pub words_begin : (i : ℕ) → i < length (table_in net).nodes
+      → get_or net.graph.readers.first i 0 ≡ first_word (table_in net) i
   words_begin i h = net.setting.reads.firsts.at i (omega (arith, low i h))
 
   -- and where they end
   pub words_end_at : (i : ℕ) → i < length (table_in net).nodes
-      → get_or net.graph.readers.first (i + 1) 0 ≡ first_word (table_in net) i + row_count (length (table_in net).states) (operator_of (node_at (table_in net) i))
-  words_end_at i h = ap (λ (k : ℕ). get_or net.graph.readers.first k 0) (add-one i) ∙ net.setting.reads.firsts.at (suc i) (omega (arith, low i h)) ∙ first_next (table_in net) i h
+      → get_or net.graph.readers.first (i + 1) 0
+      ≡ first_word (table_in net) i + row_count (length (table_in net).states)
+      (operator_of (node_at (table_in net) i))
+  words_end_at i h = ap (λ (k : ℕ). get_or net.graph.readers.first k 0) (add-one i)
+      ∙ net.setting.reads.firsts.at (suc i) (omega (arith, low i h)) ∙ first_next (table_in net) i h

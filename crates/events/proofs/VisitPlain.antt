@@ -1,4 +1,5 @@
--- Looking at a node without levels: rows alone change, and where nothing was added it is at rest at the states of its word.
+-- Looking at a node without levels: rows alone change, and where nothing was added it is at rest at the states of its
+-- word.
 use Prim.Native.Nat.{ℕ, ◌+◌, ◌≤◌, ◌<◌}
 use native.Mathlib.Omega.{arith}
 use mathlib.Core.Path.{◌≡◌, sym, ap, subst, ◌∙◌}
@@ -34,7 +35,8 @@ use Rattle.events.proofs.Looking.{looked_so, looked_loud, cell_word, looked_empt
 use Rattle.events.proofs.VisitKept.{rows_step}
 
 -- a node without levels has one row of cells
-plain_cell : (T : Table) (K : Knowledge) (i m : ℕ) (o : Operator) (s : ℕ) → has_levels o ≡ false → RestPlain T K i o s → RestCell T K i m o s
+plain_cell : (T : Table) (K : Knowledge) (i m : ℕ) (o : Operator) (s : ℕ) → has_levels o ≡ false → RestPlain T K i o s
+    → RestCell T K i m o s
 plain_cell T K i m (constant b) s e rest = rest
 plain_cell T K i m (atom p) s e rest = rest
 plain_cell T K i m (negation a) s e rest = rest
@@ -44,21 +46,30 @@ plain_cell T K i m (next q a) s e rest = rest
 plain_cell T K i m (fixpoint fam q a b) s e rest = absurd (true≢false e)
 
 -- which is its first
-pub plain_only : (T : Table) (i k : ℕ) → has_levels (operator_of (node_at T i)) ≡ false → CellsOf T i k → k ≡ first_word T i + 0
+pub plain_only : (T : Table) (i k : ℕ) → has_levels (operator_of (node_at T i)) ≡ false → CellsOf T i k
+    → k ≡ first_word T i + 0
 plain_only T i k plain c = omega (arith, c.0, c.1, plain_row (length T.states) (operator_of (node_at T i)) plain)
 
 -- and there is a word for it
-pub plain_first : (T : Table) (i : ℕ) → has_levels (operator_of (node_at T i)) ≡ false → i < length T.nodes → first_word T i < word_total T
+pub plain_first : (T : Table) (i : ℕ) → has_levels (operator_of (node_at T i)) ≡ false → i < length T.nodes
+    → first_word T i < word_total T
 plain_first T i plain h = omega (arith, cells_in T i h, plain_row (length T.states) (operator_of (node_at T i)) plain)
 
 -- as the code keeps it
-pub plain_place : (net : Net) (i : ℕ) → i < length (table_in net).nodes → first_word (table_in net) i + 0 ≡ get_or net.graph.readers.first i 0
+pub plain_place : (net : Net) (i : ℕ) → i < length (table_in net).nodes
+    → first_word (table_in net) i + 0 ≡ get_or net.graph.readers.first i 0
 plain_place net i h = omega (arith, words_begin net i h)
 
-module _ (net : Net) (i : ℕ) (h : i < length (table_in net).nodes) (plain : has_levels (operator_of (node_at (table_in net) i)) ≡ false)
-    (rows rows' looks looks' : List ℕ) (room : word_total (table_in net) ≤ length looks') (r : Report) (calm : r.changed ≡ false → looks' ≡ looks) (marked : RowsMarked net.graph.readers looks looks' rows rows')
-    (all : ℕ) (is_all : all ≡ set_of 32 (λ t. ltb t net.graph.states)) (place : ℕ) (here : place ≡ get_or net.graph.readers.first i 0) (o : Operator) (read : o ≡ operator_of (node_at (table_in net) i))
-    (did : (w : List ℕ) → stepped rows' w r ≡ node_step net.table.bytes.now net.graph.targets net.graph.states (bit_and (get_or looks place 0) all) i o (memory rows w))
+module _ (net : Net) (i : ℕ) (h : i < length (table_in net).nodes)
+    (plain : has_levels (operator_of (node_at (table_in net) i)) ≡ false)
+    (rows rows' looks looks' : List ℕ) (room : word_total (table_in net) ≤ length looks') (r : Report)
+    (calm : r.changed ≡ false → looks' ≡ looks) (marked : RowsMarked net.graph.readers looks looks' rows rows')
+    (all : ℕ) (is_all : all ≡ set_of 32 (λ t. ltb t net.graph.states)) (place : ℕ)
+    (here : place ≡ get_or net.graph.readers.first i 0) (o : Operator)
+    (read : o ≡ operator_of (node_at (table_in net) i))
+    (did : (w : List ℕ) → stepped rows' w r
+    ≡ node_step net.table.bytes.now net.graph.targets net.graph.states (bit_and (get_or looks place 0) all) i o
+    (memory rows w))
     (w : List ℕ) (sized : Sized (table_in net) (memory rows w)) where
   abbrev T : Table
   T = table_in net
@@ -77,21 +88,29 @@ module _ (net : Net) (i : ℕ) (h : i < length (table_in net).nodes) (plain : ha
 
   advances : Advance T (NodeRest T i mine look) (memory rows w) (memory rows' w) r
   advances = subst (λ (s : Stepped). Advances T (NodeRest T i mine look) (memory rows w) s)
-      (sym (did w ∙ (λ j. node_step net.table.bytes.now net.graph.targets (net.setting.states j) look i (read j) (memory rows w))))
-      (node_advance net.table.bytes.now (accepted net.table.bytes.now net.table.passes) net.graph.targets net.setting.targets_at look
+      (sym (did w ∙ (λ j. node_step net.table.bytes.now net.graph.targets (net.setting.states j) look i (read j)
+      (memory rows w))))
+      (node_advance net.table.bytes.now (accepted net.table.bytes.now net.table.passes) net.graph.targets
+      net.setting.targets_at look
       (word_inside T (get_or looks place 0) all all_are) i h (memory rows w) sized plain)
 
   moved : Looked T (λ k. ⊥) (NodeRest T i mine look) looks looks' (memory rows w) (memory rows' w) r
   moved = rows_step net rows rows' looks looks' r calm marked w sized advances
 
-  pub plain_loud : quiet r ≡ false → Looked (table_in net) (CellsOf (table_in net) i) Always looks looks' (memory rows w) (memory rows' w) r
+  pub plain_loud : quiet r ≡ false
+      → Looked (table_in net) (CellsOf (table_in net) i) Always looks looks' (memory rows w) (memory rows' w) r
   plain_loud loud = looked_loud loud moved
 
-  pub plain_calm : quiet r ≡ true → Looked (table_in net) (CellsOf (table_in net) i) Always looks (set looks' place 0) (memory rows w) (memory rows' w) r
-  plain_calm still = subst (λ (k : ℕ). Looked T (CellsOf T i) Always looks (set looks' k 0) (memory rows w) (memory rows' w) r) (sym one_row)
+  pub plain_calm : quiet r ≡ true
+      → Looked (table_in net) (CellsOf (table_in net) i) Always looks (set looks' place 0) (memory rows w)
+      (memory rows' w) r
+  plain_calm still = subst
+      (λ (k : ℕ). Looked T (CellsOf T i) Always looks (set looks' k 0) (memory rows w) (memory rows' w) r) (sym one_row)
       (looked_so (λ c f k e. plain_only T i k plain e) (λ z. z) (looked_emptied (first_word T i + 0) inside moved still
-      (cell_word T looks' (knowledge T (memory rows' w)) i 0 h some (λ s l m. plain_cell T (knowledge T (memory rows' w)) i 0 mine s plain
-      (quiet_still advances still s l (word_here T (wellformed net).few_states (get_or looks place 0) all all_are s l (was s m)))))))
+      (cell_word T looks' (knowledge T (memory rows' w)) i 0 h some
+      (λ s l m. plain_cell T (knowledge T (memory rows' w)) i 0 mine s plain
+      (quiet_still advances still s l
+      (word_here T (wellformed net).few_states (get_or looks place 0) all all_are s l (was s m)))))))
     where
       some : 0 < row_count (length T.states) mine
       some = omega (arith, plain_row (length T.states) mine plain)
@@ -100,4 +119,5 @@ module _ (net : Net) (i : ℕ) (h : i < length (table_in net).nodes) (plain : ha
       inside = omega (arith, cells_in T i h, some, room)
 
       was : (s : ℕ) → member (get_or looks' (first_word T i + 0) 0) s ≡ true → member (get_or looks place 0) s ≡ true
-      was s m = ap (λ (k : ℕ). member (get_or looks k 0) s) one_row ∙ sym (ap (λ (ws : List ℕ). member (get_or ws (first_word T i + 0) 0) s) (calm (quiet_parts r still).0)) ∙ m
+      was s m = ap (λ (k : ℕ). member (get_or looks k 0) s) one_row
+          ∙ sym (ap (λ (ws : List ℕ). member (get_or ws (first_word T i + 0) 0) s) (calm (quiet_parts r still).0)) ∙ m

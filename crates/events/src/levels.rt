@@ -1,4 +1,5 @@
-// All levels of a fixed-point node, upward or downward. Levels soon become alike, so a level with the rows of one that had nothing to add is passed over.
+// All levels of a fixed-point node, upward or downward. Levels soon become alike, so a level with the rows of one
+// that had nothing to add is passed over.
 ghost use Rattle.std.specs.Prelude.{◌≡◌, ◌+◌, ◌≤◌, ◌<◌, length};
 ghost use Rattle.readers.specs.Readers.{word_total};
 ghost use Rattle.propagate.specs.Memory.{memory};
@@ -10,9 +11,9 @@ ghost use Rattle.events.specs.Looked.{Looked, CellsOf, Always};
 use crate::net::Net;
 use crate::order::in_order;
 use propagate::{Fixpoint, level_row, level_step};
-use rows::{Report, Row, both, is_quiet};
+use rows::{ROW_WORDS, Report, Row, both, is_quiet};
 
-// A level that had nothing to add at the states of a set: its row, and that of the level below it.
+/// A level that had nothing to add at the states of a set: its row, and that of the level below it.
 #[derive(Clone, Copy)]
 pub struct Seen {
     pub look: u32,
@@ -20,7 +21,7 @@ pub struct Seen {
     pub below: Row,
 }
 
-// What looking at a level did, and the level that was seen last.
+/// What looking at a level did, and the level that was seen last.
 #[derive(Clone, Copy)]
 pub struct LevelVisit {
     pub report: Report,
@@ -40,7 +41,7 @@ fn is_alike(seen: Option<Seen>, look: u32, level: Row, below: Row) -> bool
 // Level m + 1 over level m, at the states of its word.
 fn level_visit(
     net: &Net<'_>,
-    rows: &mut [u32; 130],
+    rows: &mut [u32; ROW_WORDS],
     words: &mut [u32],
     looks: &mut [u32],
     x: Fixpoint,
@@ -50,10 +51,13 @@ fn level_visit(
     requires sized { Sized (table_in net.now) (memory rows.old words.old) }
     requires fixpoint { IsFixpoint (table_in net.now) x }
     requires m_below { m < length (table_in net.now).states }
-    requires seen_rests { SeenRest (table_in net.now) x seen (knowledge (table_in net.now) (memory rows.old words.old)) }
+    requires seen_rests { SeenRest (table_in net.now) x seen
+        (knowledge (table_in net.now) (memory rows.old words.old)) }
     requires room { word_total (table_in net.now) ≤ length looks.old }
-    ensures looked { Looked (table_in net.now) (λ k. k ≡ x.word + m) Always looks.old looks.new (memory rows.old words.old) (memory rows.new words.new) result.report }
-    ensures seen_rests { SeenRest (table_in net.now) x result.seen (knowledge (table_in net.now) (memory rows.new words.new)) }
+    ensures looked { Looked (table_in net.now) (λ k. k ≡ x.word + m) Always looks.old looks.new
+        (memory rows.old words.old) (memory rows.new words.new) result.report }
+    ensures seen_rests { SeenRest (table_in net.now) x result.seen
+        (knowledge (table_in net.now) (memory rows.new words.new)) }
 {
     let place = x.word + m;
     let word = looks[place];
@@ -85,10 +89,10 @@ fn level_visit(
     }
 }
 
-// Until something is known both ways.
+/// Until something is known both ways.
 pub fn levels_visit(
     net: &Net<'_>,
-    rows: &mut [u32; 130],
+    rows: &mut [u32; ROW_WORDS],
     words: &mut [u32],
     looks: &mut [u32],
     x: Fixpoint,
@@ -97,7 +101,8 @@ pub fn levels_visit(
     requires sized { Sized (table_in net.now) (memory rows.old words.old) }
     requires fixpoint { IsFixpoint (table_in net.now) x }
     requires room { word_total (table_in net.now) ≤ length looks.old }
-    ensures { Looked (table_in net.now) (CellsOf (table_in net.now) x.node) Always looks.old looks.new (memory rows.old words.old) (memory rows.new words.new) result }
+    ensures { Looked (table_in net.now) (CellsOf (table_in net.now) x.node) Always looks.old looks.new
+        (memory rows.old words.old) (memory rows.new words.new) result }
 {
     let mut report = Report::default();
     let mut seen = None;

@@ -8,9 +8,9 @@ ghost use Rattle.events.specs.Setting.{Setting};
 use closure::{Bases, level_bases};
 use propagate::Graph;
 use readers::readers_of;
-use table::{Accepted, initial_states, target_sets};
+use table::{Accepted, MOST_NODES, initial_states, target_sets};
 
-// The table, its states and steps and who reads what, its initial states, and where the rows of the levels lie.
+/// The table, its states and steps and who reads what, its initial states, and where the rows of the levels lie.
 #[derive(Drop)]
 pub struct Net<'a> {
     pub table: Accepted<'a>,
@@ -21,6 +21,7 @@ pub struct Net<'a> {
 }
 
 impl<'a> Net<'a> {
+    /// Works all of it out; the table is read once for each part.
     pub fn new(table: Accepted<'a>) -> Net<'a>
         ensures { result.table.bytes.now ≡ table.entry.bytes.now }
     {
@@ -42,15 +43,17 @@ impl<'a> Net<'a> {
         }
     }
 
-    // How many words there are of the states to look at.
+    /// How many words there are of the states to look at.
     pub fn word_count(&self) -> usize
         ensures { result ≡ word_total (table_of self.now.table.bytes.now) }
     {
-        self.graph.readers.first[32]
+        self.graph.readers.first[MOST_NODES]
     }
-    // How many words a closure needs, for the levels and for the states to look at.
+
+    /// How many words a closure needs, for the levels and for the states to look at.
     pub fn room(&self) -> usize
-        ensures { result ≡ level_total (table_of self.now.table.bytes.now) + word_total (table_of self.now.table.bytes.now) }
+        ensures { result ≡ level_total (table_of self.now.table.bytes.now) + word_total
+            (table_of self.now.table.bytes.now) }
     {
         self.bases.total + self.word_count()
     }

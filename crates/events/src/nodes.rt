@@ -12,7 +12,7 @@ use crate::order::in_order;
 use crate::visit::plain_visit;
 use closure::is_every;
 use propagate::Fixpoint;
-use rows::{Report, both};
+use rows::{ROW_WORDS, Report, both};
 use table::Operator;
 
 // Whether the words from one place on up to another have no state.
@@ -31,7 +31,7 @@ fn are_empty(looks: &[u32], first: usize, end: usize) -> bool
 // A node with all its cells. It is read only where one of them is to be looked at.
 fn node_visit(
     net: &Net<'_>,
-    rows: &mut [u32; 130],
+    rows: &mut [u32; ROW_WORDS],
     words: &mut [u32],
     looks: &mut [u32],
     down: bool,
@@ -40,7 +40,8 @@ fn node_visit(
     requires sized { Sized (table_in net.now) (memory rows.old words.old) }
     requires i_below { i < length (table_in net.now).nodes }
     requires room { word_total (table_in net.now) ≤ length looks.old }
-    ensures { Looked (table_in net.now) (CellsOf (table_in net.now) i) Always looks.old looks.new (memory rows.old words.old) (memory rows.new words.new) result }
+    ensures { Looked (table_in net.now) (CellsOf (table_in net.now) i) Always looks.old looks.new
+        (memory rows.old words.old) (memory rows.new words.new) result }
 {
     let word = net.graph.readers.first[i];
     let end = net.graph.readers.first[i + 1];
@@ -65,17 +66,19 @@ fn node_visit(
     levels_visit(net, rows, words, looks, x, down)
 }
 
-// Upward or downward, until something is known both ways. `down` is the order of the same visits, and picks no other step.
+/// Upward or downward, until something is known both ways. `down` is the order of the same visits, and picks no other
+/// step.
 pub fn nodes_visit(
     net: &Net<'_>,
-    rows: &mut [u32; 130],
+    rows: &mut [u32; ROW_WORDS],
     words: &mut [u32],
     looks: &mut [u32],
     down: bool,
 ) -> Report
     requires sized { Sized (table_in net.now) (memory rows.old words.old) }
     requires room { word_total (table_in net.now) ≤ length looks.old }
-    ensures { Looked (table_in net.now) (NodeCells (table_in net.now)) Always looks.old looks.new (memory rows.old words.old) (memory rows.new words.new) result }
+    ensures { Looked (table_in net.now) (NodeCells (table_in net.now)) Always looks.old looks.new
+        (memory rows.old words.old) (memory rows.new words.new) result }
 {
     let f = net.table.node_count();
     let mut report = Report::default();

@@ -2,7 +2,9 @@
 ghost use Rattle.std.specs.Prelude.{◌≡◌, ◌<◌};
 ghost use Rattle.events.specs.Ordered.{ordered};
 
-// The k-th of n numbers, going up or going down. A range and its reverse are two types of iterator, and one loop takes either way by this.
+// A range and its reverse are two types of iterator, and one loop takes either way by this.
+
+/// The k-th of the numbers below n, going up or going down.
 pub fn in_order(down: bool, n: usize, k: usize) -> usize
     requires { k < n }
     ensures { result ≡ ordered down n k }

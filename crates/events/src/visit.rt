@@ -1,5 +1,5 @@
-// Looks at the cells of K, at the initial states, or at those of a node without levels. What is added puts its readers into their words; a word whose cells had
-// nothing to add is emptied.
+// Looks at the cells of K, at the initial states, or at those of a node without levels. What is added puts its
+// readers into their words; a word whose cells had nothing to add is emptied.
 ghost use Rattle.std.specs.Prelude.{◌≡◌, true, false, List, ℕ, ◌≤◌, ◌<◌, length};
 ghost use Rattle.sets.specs.Member.{member};
 ghost use Rattle.ctl.specs.Rule.{operator_of};
@@ -16,14 +16,20 @@ ghost use Rattle.events.specs.Looked.{Looked, CellsOf, KeptAlone, Always};
 use crate::net::Net;
 use closure::{kept_step, node_step, start_step};
 use readers::KEPT_WORD;
-use rows::{Report, both, is_quiet};
+use rows::{ROW_WORDS, Report, both, is_quiet};
 use table::Operator;
 
 // K at each state of a set, until something is known both ways.
-fn kept_states(net: &Net<'_>, rows: &mut [u32; 130], looks: &mut [u32], look: u32) -> Report
+fn visit_kept_states(
+    net: &Net<'_>,
+    rows: &mut [u32; ROW_WORDS],
+    looks: &mut [u32],
+    look: u32,
+) -> Report
     requires inside { (s : ℕ) → member look s ≡ true → s < length (table_in net.now).states }
     requires room { word_total (table_in net.now) ≤ length looks.old }
-    ensures kept { (w : List ℕ) → Sized (table_in net.now) (memory rows.old w) → KeptAlone (table_in net.now) look (memory rows.old w) (memory rows.new w) result }
+    ensures kept { (w : List ℕ) → Sized (table_in net.now) (memory rows.old w)
+        → KeptAlone (table_in net.now) look (memory rows.old w) (memory rows.new w) result }
     ensures marked { RowsMarked net.now.graph.readers looks.old looks.new rows.old rows.new }
     ensures calm { result.changed ≡ false → looks.new ≡ looks.old }
 {
@@ -37,12 +43,15 @@ fn kept_states(net: &Net<'_>, rows: &mut [u32; 130], looks: &mut [u32], look: u3
     report
 }
 
-pub fn kept_visit(net: &Net<'_>, rows: &mut [u32; 130], looks: &mut [u32]) -> Report
+/// K, at the states of its word.
+pub fn kept_visit(net: &Net<'_>, rows: &mut [u32; ROW_WORDS], looks: &mut [u32]) -> Report
     requires room { word_total (table_in net.now) ≤ length looks.old }
-    ensures { (w : List ℕ) → Sized (table_in net.now) (memory rows.old w) → Looked (table_in net.now) (λ k. k ≡ 0) Always looks.old looks.new (memory rows.old w) (memory rows.new w) result }
+    ensures { (w : List ℕ) → Sized (table_in net.now) (memory rows.old w)
+        → Looked (table_in net.now) (λ k. k ≡ KEPT_WORD) Always looks.old looks.new
+        (memory rows.old w) (memory rows.new w) result }
 {
     let look = looks[KEPT_WORD] & sets::below(net.graph.states);
-    let report = kept_states(net, rows, looks, look);
+    let report = visit_kept_states(net, rows, looks, look);
     if !is_quiet(report) {
         return report;
     }
@@ -50,18 +59,21 @@ pub fn kept_visit(net: &Net<'_>, rows: &mut [u32; 130], looks: &mut [u32]) -> Re
     report
 }
 
-pub fn start_visit(net: &Net<'_>, rows: &mut [u32; 130], looks: &mut [u32]) -> Report
+/// The demands of the initial states.
+pub fn start_visit(net: &Net<'_>, rows: &mut [u32; ROW_WORDS], looks: &mut [u32]) -> Report
     requires room { word_total (table_in net.now) ≤ length looks.old }
-    ensures { (w : List ℕ) → Sized (table_in net.now) (memory rows.old w) → Looked (table_in net.now) (λ k. ⊥) (RestStart (table_in net.now)) looks.old looks.new (memory rows.old w) (memory rows.new w) result }
+    ensures { (w : List ℕ) → Sized (table_in net.now) (memory rows.old w)
+        → Looked (table_in net.now) (λ k. ⊥) (RestStart (table_in net.now)) looks.old looks.new (memory rows.old w)
+        (memory rows.new w) result }
 {
     let root = net.table.node_count() - 1;
     start_step(&net.graph, rows, looks, net.initial, root)
 }
 
-// A node without levels, at the states of its word.
+/// A node without levels, at the states of its word.
 pub fn plain_visit(
     net: &Net<'_>,
-    rows: &mut [u32; 130],
+    rows: &mut [u32; ROW_WORDS],
     looks: &mut [u32],
     i: usize,
     operator: Operator,
@@ -70,7 +82,9 @@ pub fn plain_visit(
     requires is_operator { operator ≡ operator_of (node_at (table_in net.now) i) }
     requires plain { has_levels operator ≡ false }
     requires room { word_total (table_in net.now) ≤ length looks.old }
-    ensures { (w : List ℕ) → Sized (table_in net.now) (memory rows.old w) → Looked (table_in net.now) (CellsOf (table_in net.now) i) Always looks.old looks.new (memory rows.old w) (memory rows.new w) result }
+    ensures { (w : List ℕ) → Sized (table_in net.now) (memory rows.old w)
+        → Looked (table_in net.now) (CellsOf (table_in net.now) i) Always looks.old looks.new (memory rows.old w)
+        (memory rows.new w) result }
 {
     let place = net.graph.readers.first[i];
     let word = looks[place];

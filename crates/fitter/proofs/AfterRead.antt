@@ -12,7 +12,7 @@ use Rattle.table.specs.declared.refusal.Refusal.TheVariants.{ShortBuffer}
 use Rattle.table.specs.Verdict.{Verdict}
 use Rattle.table.specs.Buffer.{on_accepted}
 use Rattle.sheet.specs.Parse.{parse}
-use Rattle.reader.specs.Read.{packed, read_verdict, answer, read_answer, read_buffer}
+use Rattle.reader.specs.Read.{packed, read_verdict, read_result, read_answer, read_buffer}
 use Rattle.reader.specs.Exact.{ReadRefused}
 use Rattle.reader.proofs.Found.{any_room, read_refused, no_room, room_refused, has_room, exact, accepted_just}
 use Rattle.fitter.specs.LentMemory.{ReadLeaves}
@@ -22,7 +22,7 @@ module _ (text before : List ℕ) where
   P = packed (parse text)
 
   abbrev Leaves : Verdict → Type 0
-  Leaves v = ReadLeaves text (answer v P) before (on_accepted v (P ++ drop (length P) before) before)
+  Leaves v = ReadLeaves text (read_result v P) before (on_accepted v (P ++ drop (length P) before) before)
 
   abbrev Done : Type 0
   Done = ReadLeaves text (read_answer text before) before (read_buffer text before)

@@ -15,7 +15,15 @@ use Rattle.search.specs.TableSearch.{search_under}
 use Rattle.search.specs.declared.answer.Answer.{Answer}
 use Rattle.search.specs.declared.answer.Answer.TheVariants.{Found, None, Spent, Refused}
 use Rattle.search.specs.Answer.{IsFound, IfFound, IfRefused}
-use Rattle.repair.specs.Outcome.{repair_verdict, answer_at, written_after, repair_answer, repair_list, repair_bytes, repair_words}
+use Rattle.repair.specs.Effect.{
+  repair_verdict,
+  answer_at,
+  written_after,
+  repair_answer,
+  repair_list,
+  repair_bytes,
+  repair_words,
+}
 use Rattle.repair.specs.Right.{LongEnough, FoundList}
 use Rattle.repair.proofs.Order.{Left}
 use Rattle.repair.proofs.Refusals.{refused_right, refused_leaves, answered_just, cleared_front}

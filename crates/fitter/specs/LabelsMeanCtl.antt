@@ -1,5 +1,5 @@
 -- Labels agree with CTL over infinite paths: a state is marked for a node of the rule exactly when it is kept and the
--- node holds there, for every table and total list of kept steps.
+-- node holds there, for every table and total list of kept steps. Specification, "Promises".
 --
 -- The marks are the bits of Label's words, as the contract of `label_nodes` has them. What holds where, over infinite
 -- paths, is crate ctl's (NodeHolds).

@@ -1,8 +1,9 @@
 -- After every call, on every input, each lent buffer holds exactly what is said here of the answer. An input that is
 -- refused is refused for what fails in it, and then nothing is written. Nothing is asked of any input.
 --
--- The answers and the buffers are those of the contracts of `repair`, `judge_list`, `label_nodes`, `holding_states` and
--- `read`. A function that is proved ends. What the numbers hold that C lends, the contracts of the crate fitter_c say.
+-- Specification, "Calls". The answers and the buffers are those of the contracts of `repair`, `judge_list`,
+-- `label_nodes`, `holding_states` and `read`. A function that is proved ends. What the numbers hold that C lends, the
+-- contracts of the crate fitter_c say.
 use Rattle.std.specs.Prelude.{ℕ, ◌≡◌, ◌↔◌, List, Result, IsOk, IfOk, IfErr, OnOk, OnErr, length, replicate}
 use Rattle.table.specs.declared.refusal.Refusal.{Refusal}
 use Rattle.table.specs.Verdict.{Verdict}
@@ -19,7 +20,7 @@ use Rattle.reader.specs.Exact.{Readable, ReadRefused, ReadIsExact}
 use Rattle.reader.specs.Read.{read_answer, read_buffer}
 use Rattle.search.specs.declared.answer.Answer.{Answer}
 use Rattle.search.specs.Answer.{IsFound, IfFound, IfRefused}
-use Rattle.repair.specs.Outcome.{repair_answer, repair_list, repair_bytes, repair_words}
+use Rattle.repair.specs.Effect.{repair_answer, repair_list, repair_bytes, repair_words}
 use Rattle.repair.specs.Refused.{RepairRefused}
 use Rattle.repair.specs.Right.{LongEnough, FoundList}
 use Rattle.fitter.specs.Numbers.{NumbersTell}

@@ -1,4 +1,5 @@
+-- What is promised.
 pub mod LentMemory
 pub mod LabelsMeanCtl
-pub mod Numbers
 pub mod RepairerAndJudge
+pub mod Numbers

@@ -1,12 +1,12 @@
--- Repairer and judge agree, for every table, every cap, buffers that are long enough and whatever bytes are handed to
--- the judge as a list. They share the table and a list of kept steps, no more: crates.txt shows it, since the judge's
--- crates and the repairer's have only the table and its meaning (table, ctl, sets) in common. Which states are reached
--- each works out by its own code.
+-- Specification, "Promises". Repairer and judge agree, for every table, every cap, buffers that are long enough and
+-- whatever bytes are handed to the judge as a list. They share the table and a list of kept steps, no more:
+-- crates.txt shows it, since the judge's crates and the repairer's have only the table and its meaning (table, ctl,
+-- sets) in common. Which states are reached each works out by its own code.
 use Rattle.std.specs.Prelude.{ℕ, ◌≡◌, ◌↔◌, List, Ok}
 use Rattle.table.specs.Table.{table_of}
 use Rattle.ctl.specs.Kept.{NarrowRepair}
 use Rattle.ctl.specs.Tests.{judge_verdict}
-use Rattle.repair.specs.Outcome.{repair_answer, repair_list}
+use Rattle.repair.specs.Effect.{repair_answer, repair_list}
 use Rattle.repair.specs.Right.{LongEnough, RepairIsRight}
 
 -- of one table, what is answered and left, and what the judge says of a list

@@ -1,6 +1,6 @@
 -- What the numbers that C lends hold after a call.
 use Rattle.std.specs.Prelude.{ℕ, Result, Ok, Err}
-use Rattle.std.proofs.Math.Option.{Option, none, some}
+use Rattle.std.specs.Prelude.{Option, None as none, Some as some}
 use Rattle.table.specs.declared.refusal.Refusal.{Refusal}
 use Rattle.search.specs.declared.answer.Answer.{Answer}
 use Rattle.search.specs.Answer.{answer_choices, answer_price, answer_settled}

@@ -15,13 +15,13 @@ ghost use Rattle.label.specs.Calls.{label_verdict, label_buffer, holding_answer,
 ghost use Rattle.reader.specs.Read.{read_answer, read_buffer};
 ghost use Rattle.search.specs.Answer.{answer_number};
 ghost use Rattle.repair.specs.Right.{LongEnough, RepairIsRight};
-ghost use Rattle.repair.specs.Outcome.{repair_answer, repair_list, repair_bytes, repair_words};
+ghost use Rattle.repair.specs.Effect.{repair_answer, repair_list, repair_bytes, repair_words};
 ghost use Rattle.fitter_c.specs.Exports.{holding_count, read_length, repair_choices, repair_price, repair_settled};
 
 use store::{store_answer, store_count};
 
-// 0 found, 14 none or 15 spent, and the choices, the price and the settled steps stored; or the refusal's number and
-// nothing stored or written.
+/// 0 found, 14 none or 15 spent, and the choices, the price and the settled steps stored; or the refusal's number and
+/// nothing stored or written.
 #[unsafe(no_mangle)]
 pub extern "C" fn fitter_repair(
     table: &[u8],
@@ -54,7 +54,7 @@ pub extern "C" fn fitter_repair(
     )
 }
 
-// 0 where the list is a repair of the table in the narrower sense, else the refusal's number.
+/// 0 where the list is a repair of the table in the narrower sense, else the refusal's number.
 #[tactic(auto, using(crate::proofs::Judged::judged_exact))]
 #[unsafe(no_mangle)]
 pub extern "C" fn fitter_judge(table: &[u8], list: &[u8]) -> u32
@@ -64,7 +64,7 @@ pub extern "C" fn fitter_judge(table: &[u8], list: &[u8]) -> u32
     table::verdict_number(fitter::judge_list(table, list))
 }
 
-// 0 and an entry for each node, or the refusal's number and nothing written.
+/// 0 and an entry for each node, or the refusal's number and nothing written.
 #[unsafe(no_mangle)]
 pub extern "C" fn fitter_label(table: &[u8], list: &[u8], out: &mut [u32]) -> u32
     ensures value { result ≡ verdict_number (label_verdict table.now list.now (length out.old)) }
@@ -73,7 +73,7 @@ pub extern "C" fn fitter_label(table: &[u8], list: &[u8], out: &mut [u32]) -> u3
     table::verdict_number(fitter::label_nodes(table, list, out))
 }
 
-// 0, the states of the root's set in reading order and their count, or the refusal's number and nothing written.
+/// 0, the states of the root's set in reading order and their count, or the refusal's number and nothing written.
 #[unsafe(no_mangle)]
 pub extern "C" fn fitter_holding(table: &[u8], list: &[u8], out: &mut [u8], count: &mut u32) -> u32
     ensures value { result ≡ verdict_number (holding_answer table.now list.now (length out.old)) }
@@ -83,7 +83,7 @@ pub extern "C" fn fitter_holding(table: &[u8], list: &[u8], out: &mut [u8], coun
     store_count(fitter::holding_states(table, list, out), count)
 }
 
-// 0, the packed table of the sheet written and its length stored, or the refusal's number and nothing written.
+/// 0, the packed table of the sheet written and its length stored, or the refusal's number and nothing written.
 #[unsafe(no_mangle)]
 pub extern "C" fn fitter_read(text: &[u8], out: &mut [u8], length: &mut u64) -> u32
     ensures value { result ≡ verdict_number (read_answer text.now out.old) }

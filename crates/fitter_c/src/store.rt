@@ -53,8 +53,8 @@ pub fn store_answer(answer: Answer, choices: &mut u64, price: &mut u32, settled:
     }
 }
 
-// The number of an answer that carries a count, and the count stored. After a refusal it stays. (`verdict_number`
-// behind an `if let` was tried: the borrow checker does not cover that of a generic answer.)
+// The number of an answer that carries a count, and the count stored. After a refusal it stays. Not `verdict_number`
+// behind an `if let`, which the borrow checker does not cover for a generic answer.
 pub fn store_count<T: Copy>(answer: Result<T, Refusal>, count: &mut T) -> u32
     ensures value { result ≡ verdict_number answer }
     ensures count_after { count.new ≡ given answer count.old }

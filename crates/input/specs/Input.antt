@@ -18,6 +18,6 @@ Came None room r = ⊤
 Came (Some bytes) room r = GaveOk bytes room r
 
 -- the bytes are no more than k
-abbrev pub Inside : Input → ℕ → Type 0
-Inside (All n) k = n ≤ k
-Inside More k = ⊤
+abbrev pub CountFits : Input → ℕ → Type 0
+CountFits (All n) k = n ≤ k
+CountFits More k = ⊤

@@ -1,1 +1,2 @@
+-- What is promised.
 pub mod Input

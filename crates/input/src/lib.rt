@@ -2,7 +2,7 @@
 #![tactic(auto)]
 
 ghost use Rattle.std.specs.Prelude.{length, IfOk};
-ghost use Rattle.input.specs.Input.{Came, Inside};
+ghost use Rattle.input.specs.Input.{Came, CountFits};
 
 use std::io::{self, Read};
 
@@ -25,7 +25,7 @@ pub enum Input {
 pub fn read_input<R: Read>(reader: &mut R, room: &mut [u8]) -> io::Result<Input>
     ensures came { Came (R.remaining reader.old) room.new result }
     // this is known of each reader, the bytes only of those whose type says what they have left
-    ensures fits { IfOk result (λ input. Inside input (length room.old)) }
+    ensures fits { IfOk result (λ input. CountFits input (length room.old)) }
 {
     let mut n = 0;
     while n < room.len() {

@@ -15,9 +15,11 @@ use Rattle.table.proofs.Verdicts.{then_assoc}
 -- what is tested after the analysis
 abbrev pub last_tests : Table → List ℕ → Verdict
 last_tests T list =
-    require NoInitialKept (keeps_initial T list) then require UnreachedStep (leaves_reached T list) then require RootFails (root_marked T list)
+    require NoInitialKept (keeps_initial T list) then require UnreachedStep (leaves_reached T list)
+    then require RootFails (root_marked T list)
 
-pub judge_order : (table list : List ℕ) → judge_verdict table list ≡ analysis_verdict true table list then last_tests (table_of table) list
+pub judge_order : (table list : List ℕ)
+    → judge_verdict table list ≡ analysis_verdict true table list then last_tests (table_of table) list
 unfolding judge_verdict analysis_verdict
 judge_order table list =
     let t = table_verdict table in

@@ -1,4 +1,5 @@
--- With the kept next states as rows and the kept initial states as starts, the least closed set is that of the reached states.
+-- With the kept next states as rows and the kept initial states as starts, the least closed set is that of the
+-- reached states.
 use Prim.Native.Nat.{ℕ, zero, suc, ◌<◌}
 use mathlib.Core.Path.{◌≡◌, sym, ap, ◌∙◌}
 use mathlib.Core.Bool.{true}
@@ -19,7 +20,7 @@ use Rattle.ctl.specs.Reached.{is_initial_kept, is_reached}
 use Rattle.ctl.proofs.Targets.{targets_sound, targets_complete, next_inside}
 use Rattle.ctl.proofs.Reached.{initial_kept, reached_on, is_reached_lem}
 use Rattle.label.proofs.Next.{KeptRows, row-member}
-use Rattle.judge.specs.Reached.{Closed, Least}
+use Rattle.judge.specs.Reached.{ClosedUnderNext, Least}
 use Rattle.judge.proofs.Starts.{inside}
 
 module _ (T : Table) (wf : Wellformed T) (list rows : List ℕ) (rows_are : rows ≡ target_sets (kept_steps T.steps list))
@@ -42,21 +43,27 @@ module _ (T : Table) (wf : Wellformed T) (list rows : List ℕ) (rows_are : rows
         let i = ((in_set 32 (is_initial_kept T list) s).0 (sym (ap (λ (w : ℕ). member w s) starts_are) ∙ e)).1 in
         let r = (initial_kept T list s).0 i in
         ((inside T wf list s i, r.0), r.1),
-    λ r. ap (λ (w : ℕ). member w s) starts_are ∙ (in_set 32 (is_initial_kept T list) s).1 (state_below s r.0.0, (initial_kept T list s).1 (r.0.1, r.1)),
+    λ r. ap (λ (w : ℕ). member w s) starts_are
+        ∙ (in_set 32 (is_initial_kept T list) s).1 (state_below s r.0.0, (initial_kept T list s).1 (r.0.1, r.1)),
   )
 
   -- the set of the reached states is closed
-  reached_closed : Closed rows starts (set_of 32 (is_reached T list))
+  reached_closed : ClosedUnderNext rows starts (set_of 32 (is_reached T list))
   unfolding ReachedIn
   reached_closed = record {
-    begins = λ s e. let r = (in_starts s).0 e in (in_set 32 _ s).1 (state_below s r.0.0, (is_reached_lem T wf list s).1 (zero, r));
+    begins = λ s e. let r = (in_starts s).0 e in
+        (in_set 32 _ s).1 (state_below s r.0.0, (is_reached_lem T wf list s).1 (zero, r));
     goes_on = λ s t l e row.
         let r = (in_set 32 (is_reached T list) s).0 e in
-        (in_set 32 _ t).1 (l, (is_reached_lem T wf list t).1 (reached_on T list s t ((is_reached_lem T wf list s).0 r.1) ((row_next_lem s t r.0 l).0 row)));
+        (in_set 32 _ t).1 (
+          l,
+          (is_reached_lem T wf list t).1
+              (reached_on T list s t ((is_reached_lem T wf list s).0 r.1) ((row_next_lem s t r.0 l).0 row)),
+        );
   }
 
   -- and each closed set has them
-  closed_reached : (X : ℕ) → Closed rows starts X → (k s : ℕ) → ReachedIn T list k s → member X s ≡ true
+  closed_reached : (X : ℕ) → ClosedUnderNext rows starts X → (k s : ℕ) → ReachedIn T list k s → member X s ≡ true
   unfolding ReachedIn
   closed_reached X c zero s r = c.begins s ((in_starts s).1 r)
   closed_reached X c (suc k) t r =

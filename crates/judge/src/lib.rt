@@ -14,8 +14,10 @@ use label::{Room, analyse};
 use reached::reached_states;
 use table::{Accepted, Refusal};
 
-/// The tests of a table, and of a list in the order of its form, total, an initial state kept, only reached states left, and
-/// the rule, whatever the bytes.
+/// The judge: whether a list is a repair of a table in the narrower sense.
+///
+/// The tests of a table come first, and then those of a list, in the order of its form, total, an initial state kept,
+/// only reached states left, and the rule, whatever the bytes: 2 to 9, 11, 12, 16 and 13.
 pub fn judge_list(table: &[u8], list: &[u8]) -> Result<(), Refusal>
     ensures value { result ≡ judge_verdict table.now list.now }
     ensures exact { (result ≡ Ok tt) ↔ (IsTable table.now × NarrowRepair (table_of table.now) list.now) }

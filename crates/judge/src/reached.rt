@@ -1,7 +1,8 @@
 // The states that a list reaches, for test 16.
 ghost use Rattle.judge.specs.Reached.{Least};
 
-// From the starts, by the rows of next states. Each state that is reached is looked at once: `left` has those whose row is not yet added.
+// From the starts, by the rows of next states. Each state that is reached is looked at once: `left` has those whose
+// row is not yet added.
 pub fn reached_states(rows: &[u32; 32], starts: u32) -> u32
     ensures { Least rows.now starts result }
 {

@@ -1,4 +1,5 @@
--- Holding's bytes are the kept states at which the root holds, in reading order, and a refusal leaves the buffer as it was.
+-- Holding's bytes are the kept states at which the root holds, in reading order, and a refusal leaves the buffer as
+-- it was.
 use Prim.Native.Nat.{ℕ}
 use mathlib.Core.Path.{◌≡◌, refl, sym, ap, subst, ◌∙◌}
 use mathlib.Core.Bool.{true, false≢true}
@@ -42,7 +43,8 @@ module _ (T : Table) (wf : Wellformed T) (list : List ℕ) (total : Total T list
   }
 
   pub held_alone : (others : List ℕ) → RootStates T list others → others ≡ held_states T list
-  held_alone others r = held-only T wf list others (λ s. Iff.trans (r.each_once.each s) (Iff.symm (root_means s))) r.in_order
+  held_alone others r =
+      held-only T wf list others (λ s. Iff.trans (r.each_once.each s) (Iff.symm (root_means s))) r.in_order
 
 module _ (table list before after : List ℕ) (now : after ≡ holding_buffer table list before) where
   abbrev T : Table
@@ -86,7 +88,8 @@ module _ (table list before after : List ℕ) (now : after ≡ holding_buffer ta
   refuses_at (Ok tt) is = tt
   refuses_at (Err r) is = tests_refuse (length T.states) (length before) table list r is
 
-  holds_at : (v : Verdict) → verdict ≡ v → IfOk (holding_at v (length held)) (λ count. HoldingIsExact T list count before after)
+  holds_at : (v : Verdict) → verdict ≡ v
+      → IfOk (holding_at v (length held)) (λ count. HoldingIsExact T list count before after)
   holds_at (Ok tt) is = exact is (length held) refl
   holds_at (Err r) is = tt
 

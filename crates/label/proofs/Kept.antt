@@ -14,14 +14,13 @@ use Rattle.sets.specs.Member.{member, set_of}
 use Rattle.sets.proofs.Laws.{member-zero}
 use Rattle.sets.proofs.SetOf.{set_of-lt, member-set_of-below, empty}
 use Rattle.table.specs.declared.record.State.{State}
-use Rattle.table.specs.Table.{Table, state_width, state_of, zero_state, state_at}
-use Rattle.table.specs.Accept.{is_initial, initial_at}
+use Rattle.table.specs.Table.{Table, state_width, state_of, zero_state, state_at, is_initial, initial_at}
 use Rattle.table.specs.Facts.{Wellformed}
 use Rattle.table.specs.StateSets.{initial_word, labelled_word}
 use Rattle.table.proofs.Bools.{same_test, not_so}
 use Rattle.table.proofs.Past.{state_past}
 use Rattle.ctl.specs.Kept.{Total}
-use Rattle.ctl.specs.Levels.{tabulate}
+use Rattle.ctl.specs.Range.{tabulate}
 use Rattle.ctl.specs.Labels.{is_kept}
 use Rattle.ctl.specs.Tests.{is_total}
 use Rattle.ctl.proofs.Tabulate.{member_tabulate, tabulate_member, all_true}
@@ -56,7 +55,8 @@ implied false b = (λ e h. absurd (false≢true h), λ f. refl)
 pub none_found : (f : ℕ → Bool) → (eqb (set_of 32 f) 0 ≡ true) ↔ ((t : ℕ) → t < 32 → f t ≡ false)
 none_found f = (
   λ e t h. sym (member-set_of-below 32 f t h) ∙ ap (λ (m : ℕ). member m t) (eqb-true (set_of 32 f) 0 e) ∙ member-zero t,
-  λ none. eq-eqb (set_of 32 f) 0 (empty 32 (set_of 32 f) (set_of-lt 32 f) (λ t h. member-set_of-below 32 f t h ∙ none t h)),
+  λ none. eq-eqb (set_of 32 f) 0 (empty 32 (set_of 32 f) (set_of-lt 32 f)
+      (λ t h. member-set_of-below 32 f t h ∙ none t h)),
 )
 
 -- every state that a row leads to is in the set
@@ -80,8 +80,10 @@ module _ {T : Table} {list rows : List ℕ} (k : KeptRows T list rows) where
         let r = next_inside T k.table list s t h in
         let hs = lt_of_lt_of_le r.0 k.table.few_states in
         let ht = lt_of_lt_of_le r.1 k.table.few_states in
-        (is_kept_lem T list t).0 (sym (member_kept t ht) ∙ total s t hs ht ((row-member k s t hs ht).1 (targets_complete T list s t h))),
-    λ total s t hs ht m. member_kept t ht ∙ (is_kept_lem T list t).1 (total s t (targets_sound T list s t ((row-member k s t hs ht).0 m))),
+        (is_kept_lem T list t).0 (sym (member_kept t ht)
+        ∙ total s t hs ht ((row-member k s t hs ht).1 (targets_complete T list s t h))),
+    λ total s t hs ht m. member_kept t ht
+        ∙ (is_kept_lem T list t).1 (total s t (targets_sound T list s t ((row-member k s t hs ht).0 m))),
   )
     where
       member_kept : (t : ℕ) → t < 32 → member kept t ≡ is_kept T list t
@@ -92,7 +94,8 @@ module _ {T : Table} {list rows : List ℕ} (k : KeptRows T list rows) where
   total_word =
       let kept = kept_word rows (length T.states) in
       let means = Iff.trans (total_rows_lem rows kept) (total_kept kept (kept_word_lem k)) in
-      same_test (total_rows rows kept) (is_total T list) (λ e. (is-total T list).1 (means.0 e)) (λ e. means.1 ((is-total T list).0 e))
+      same_test (total_rows rows kept) (is_total T list) (λ e. (is-total T list).1 (means.0 e))
+      (λ e. means.1 ((is-total T list).0 e))
 
 -- ---- what the records of the states say
 
@@ -103,13 +106,17 @@ StateBytes T states = (s : ℕ) → s < length T.states → state_of (drop (stat
 module _ (T : Table) (wf : Wellformed T) (states : List ℕ) (records : StateBytes T states) where
   -- a set that is read off the records, of a test that no record of zeros passes
   read_word : (test : State → Bool) → test zero_state ≡ false
-      → set_of (length T.states) (λ s. test (state_of (drop (state_width * s) states))) ≡ set_of 32 (λ s. test (state_at T s))
-  read_word test zeros = wider (length T.states) _ _ wf.few_states (λ s h. ap test (records s h)) (λ s h. ap test (state_past T s h) ∙ zeros)
+      → set_of (length T.states) (λ s. test (state_of (drop (state_width * s) states)))
+      ≡ set_of 32 (λ s. test (state_at T s))
+  read_word test zeros =
+      wider (length T.states) _ _ wf.few_states (λ s h. ap test (records s h))
+      (λ s h. ap test (state_past T s h) ∙ zeros)
 
   -- the initial states
   pub initial_word_lem : initial_word states (length T.states) ≡ set_of 32 (initial_at T)
   initial_word_lem = read_word is_initial refl
 
   -- the states with p in their label
-  pub labelled_word_lem : (p : ℕ) → labelled_word states (length T.states) p ≡ set_of 32 (λ s. member (state_at T s).label p)
+  pub labelled_word_lem : (p : ℕ)
+      → labelled_word states (length T.states) p ≡ set_of 32 (λ s. member (state_at T s).label p)
   labelled_word_lem p = read_word (λ x. member x.label p) (member-zero p)

@@ -23,7 +23,8 @@ if_kept b x = cond (eqb b 1) (x ∷ []) []
 
 -- of the steps before j + 1, those before j and the one at j
 pub kept_more : (xs : List Step) (bits : List ℕ) (j : ℕ) (d : Step) → length bits ≡ length xs → j < length bits
-    → kept_steps (take (suc j) xs) (take (suc j) bits) ≡ kept_steps (take j xs) (take j bits) ++ if_kept (get_or bits j 0) (get_or xs j d)
+    → kept_steps (take (suc j) xs) (take (suc j) bits)
+    ≡ kept_steps (take j xs) (take j bits) ++ if_kept (get_or bits j 0) (get_or xs j d)
 unfolding kept_steps
 kept_more [] [] j d e h = absurd (omega arith)
 kept_more [] (b ∷ bits) j d e h = absurd (omega arith)
@@ -34,14 +35,19 @@ kept_more (x ∷ xs) (b ∷ bits) zero d e h = first (eqb b 1)
     first t = refl
 kept_more (x ∷ xs) (b ∷ bits) (suc j) d e h = step (eqb b 1) (kept_more xs bits j d (omega arith) (omega arith))
   where
-    step : (t : Bool) → kept_steps (take (suc j) xs) (take (suc j) bits) ≡ kept_steps (take j xs) (take j bits) ++ if_kept (get_or bits j 0) (get_or xs j d)
-        → cond t (x ∷ kept_steps (take (suc j) xs) (take (suc j) bits)) (kept_steps (take (suc j) xs) (take (suc j) bits))
-        ≡ cond t (x ∷ kept_steps (take j xs) (take j bits)) (kept_steps (take j xs) (take j bits)) ++ if_kept (get_or bits j 0) (get_or xs j d)
+    step : (t : Bool)
+        → kept_steps (take (suc j) xs) (take (suc j) bits)
+        ≡ kept_steps (take j xs) (take j bits) ++ if_kept (get_or bits j 0) (get_or xs j d)
+        → cond t (x ∷ kept_steps (take (suc j) xs) (take (suc j) bits))
+        (kept_steps (take (suc j) xs) (take (suc j) bits))
+        ≡ cond t (x ∷ kept_steps (take j xs) (take j bits)) (kept_steps (take j xs) (take j bits))
+        ++ if_kept (get_or bits j 0) (get_or xs j d)
     step true p = ap (λ (l : List Step). x ∷ l) p
     step false p = p
 
 -- a step of an accepted table: its ends are below 32
-pub step_ends : (table : List ℕ) → table_verdict table ≡ Ok tt → (j : ℕ) → j < length (table_of table).steps → (x : Step) → x ≡ step_at (table_of table) j → ReadStep table j x
+pub step_ends : (table : List ℕ) → table_verdict table ≡ Ok tt → (j : ℕ) → j < length (table_of table).steps
+    → (x : Step) → x ≡ step_at (table_of table) j → ReadStep table j x
 step_ends table ok j h x e =
     let T = (accepted table ok).table in record {
       here = e;
@@ -51,7 +57,8 @@ step_ends table ok j h x e =
 
 -- the rows after a step that is kept, and after one that is struck
 module _ (rows next : List ℕ) (before : List Step) (g : Rows rows before) where
-  pub with_kept : (table : List ℕ) (j b k : ℕ) (x : Step) → ReadStep table j x → b ≡ 1 → k ≡ set_of 32 (λ t. member (get_or rows x.from 0) t || eqb t x.to)
+  pub with_kept : (table : List ℕ) (j b k : ℕ) (x : Step) → ReadStep table j x → b ≡ 1
+      → k ≡ set_of 32 (λ t. member (get_or rows x.from 0) t || eqb t x.to)
       → next ≡ set rows x.from k → Rows next (before ++ if_kept b (step_at (table_of table) j))
   with_kept table j b k x r kept e n =
       rw (n, e, eq-eqb b 1 kept, ← r.here) (rows_more rows before g x r.from_below r.to_below)

@@ -14,7 +14,8 @@ use Rattle.table.specs.declared.operator.Family.{Family}
 use Rattle.table.specs.declared.operator.Family.TheVariants.{Release, Until, Eventually, Always}
 use Rattle.table.specs.Table.{Table}
 use Rattle.ctl.specs.Rule.{Quantifier}
-use Rattle.ctl.specs.Levels.{has, tabulate, iterate, next_in, joined, level}
+use Rattle.ctl.specs.Range.{tabulate}
+use Rattle.ctl.specs.Levels.{has, iterate, next_in, joined, level}
 use Rattle.ctl.specs.Labels.{targets}
 use Rattle.ctl.proofs.Tabulate.{get_d_tabulate, get_d_tabulate_past}
 use Rattle.table.proofs.Bools.{not_so}
@@ -25,7 +26,8 @@ use Rattle.label.proofs.Marks.{and_word, or_word}
 use Rattle.label.proofs.Next.{KeptRows, next_word_lem}
 
 -- what a level joins, of words, is the word of what it joins of marks
-join_word_lem : (f : Family) (a b x : ℕ → Bool) → join_word f (set_of 32 a) (set_of 32 b) (set_of 32 x) ≡ set_of 32 (λ s. joined f (a s) (b s) (x s))
+join_word_lem : (f : Family) (a b x : ℕ → Bool)
+    → join_word f (set_of 32 a) (set_of 32 b) (set_of 32 x) ≡ set_of 32 (λ s. joined f (a s) (b s) (x s))
 join_word_lem Release a b x = ap (bit_and (set_of 32 b)) (or_word a x) ∙ and_word b (λ s. a s || x s)
 join_word_lem Until a b x = ap (bit_or (set_of 32 b)) (and_word a x) ∙ or_word b (λ s. a s && x s)
 join_word_lem Eventually a b x = or_word b x
@@ -37,22 +39,30 @@ joined_none f a = not_so (joined f a false false) (λ e. ⊎_elim false≢true f
 
 module _ (f : Family) (q : Quantifier) (next : ℕ → List ℕ) (n : ℕ) (A B Y : List Bool) (size : length B ≡ n) where
   -- the mark of a state in a level, of the marks of a and b and of the states at which the level below is next
-  level_marks : (s : ℕ) → joined f (has A s) (has B s) (has (tabulate n (λ t. next_in q Y (next t))) s) ≡ has (level f q next n A B Y) s
+  level_marks : (s : ℕ)
+      → joined f (has A s) (has B s) (has (tabulate n (λ t. next_in q Y (next t))) s) ≡ has (level f q next n A B Y) s
   unfolding level
   level_marks s = go (dec_lt s n)
     where
-      go : Dec (s < n) → joined f (has A s) (has B s) (has (tabulate n (λ t. next_in q Y (next t))) s) ≡ has (level f q next n A B Y) s
-      go (yes h) = ap (joined f (has A s) (has B s)) (get_d_tabulate n (λ t. next_in q Y (next t)) s false h) ∙ sym (level_mark f q next n A B Y s h)
+      go : Dec (s < n)
+          → joined f (has A s) (has B s) (has (tabulate n (λ t. next_in q Y (next t))) s)
+          ≡ has (level f q next n A B Y) s
+      go (yes h) =
+          ap (joined f (has A s) (has B s)) (get_d_tabulate n (λ t. next_in q Y (next t)) s false h)
+          ∙ sym (level_mark f q next n A B Y s h)
       go (no h) =
-          ap₂ (joined f (has A s)) (get_or-eq_default B false (rw size (omega arith))) (get_d_tabulate_past n _ s false (omega arith))
+          ap₂ (joined f (has A s)) (get_or-eq_default B false (rw size (omega arith)))
+          (get_d_tabulate_past n _ s false (omega arith))
           ∙ joined_none f (has A s)
           ∙ sym (get_d_tabulate_past n _ s false (omega arith))
 
-module _ {T : Table} {list rows : List ℕ} (k : KeptRows T list rows) (f : Family) (q : Quantifier) (A B : ℕ) (YA YB : List Bool)
+module _ {T : Table} {list rows : List ℕ} (k : KeptRows T list rows) (f : Family) (q : Quantifier) (A B : ℕ)
+    (YA YB : List Bool)
     (A-is : A ≡ set_of 32 (has YA)) (B-is : B ≡ set_of 32 (has YB)) (size : length YB ≡ length T.states) where
   -- one level, from the words of a, of b and of the level below
   pub level_word_lem : (X : ℕ) (Y : List Bool) → X ≡ set_of 32 (has Y)
-      → level_word f q rows (length T.states) A B X ≡ set_of 32 (has (level f q (targets T list) (length T.states) YA YB Y))
+      → level_word f q rows (length T.states) A B X
+      ≡ set_of 32 (has (level f q (targets T list) (length T.states) YA YB Y))
   level_word_lem X Y e =
       ap₂ (λ (x y : ℕ). join_word f x y (next_word q rows (length T.states) X)) A-is B-is
       ∙ ap (join_word f (set_of 32 (has YA)) (set_of 32 (has YB))) (next_word_lem k q X Y e)
@@ -74,6 +84,7 @@ unfolding levels_word
 levels_stay f q rows n A B m fixed zero h = let e : m ≡ 0 = omega arith in ap (levels_word f q rows n A B) (sym e)
 levels_stay f q rows n A B m fixed (suc k) h = go (dec_lt k m) (levels_stay f q rows n A B m fixed k)
   where
-    go : Dec (k < m) → (m ≤ k → levels_word f q rows n A B k ≡ levels_word f q rows n A B m) → levels_word f q rows n A B (suc k) ≡ levels_word f q rows n A B m
+    go : Dec (k < m) → (m ≤ k → levels_word f q rows n A B k ≡ levels_word f q rows n A B m)
+        → levels_word f q rows n A B (suc k) ≡ levels_word f q rows n A B m
     go (yes l) ih = let e : suc k ≡ m = omega arith in ap (levels_word f q rows n A B) e
     go (no l) ih = ap (level_word f q rows n A B) (ih (omega arith)) ∙ fixed

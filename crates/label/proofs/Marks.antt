@@ -1,4 +1,5 @@
--- Sets of at most 32 states, as words and as properties: the operations on words, and a set of fewer states as one of 32.
+-- Sets of at most 32 states, as words and as properties: the operations on words, and a set of fewer states as one of
+-- 32.
 use Prim.Native.Nat.{ℕ, ◌-◌, ◌^◌, ◌≤◌, ◌<◌}
 use mathlib.Core.Path.{◌≡◌, sym, ap, ap₂, ◌∙◌}
 use mathlib.Core.Bool.{Bool, false, not, ◌&&◌, ◌||◌}
@@ -12,20 +13,27 @@ use lib.Pow.{pow_mono, ones_sub-lt}
 use Rattle.sets.specs.Member.{member, set_of}
 use Rattle.sets.proofs.Laws.{member-and, member-or, member_complement}
 use Rattle.sets.proofs.SetOf.{set_of-lt, member-set_of, member-set_of-below, set_of_unique}
-use Rattle.ctl.specs.Levels.{has, tabulate}
+use Rattle.ctl.specs.Range.{tabulate}
+use Rattle.ctl.specs.Levels.{has}
 use Rattle.ctl.proofs.Tabulate.{get_d_tabulate, get_d_tabulate_past}
 use Rattle.label.specs.Words.{full}
 
 module _ (f g : ℕ → Bool) where
   -- the meet of two words
   pub and_word : bit_and (set_of 32 f) (set_of 32 g) ≡ set_of 32 (λ s. f s && g s)
-  and_word = set_of_unique 32 (λ s. f s && g s) (bit_and (set_of 32 f) (set_of 32 g)) (and_lt 32 (set_of 32 f) (set_of 32 g) (set_of-lt 32 f) (set_of-lt 32 g))
-      (λ s h. member-and (set_of 32 f) (set_of 32 g) s ∙ ap₂ ◌&&◌ (member-set_of-below 32 f s h) (member-set_of-below 32 g s h))
+  and_word =
+      set_of_unique 32 (λ s. f s && g s) (bit_and (set_of 32 f) (set_of 32 g))
+      (and_lt 32 (set_of 32 f) (set_of 32 g) (set_of-lt 32 f) (set_of-lt 32 g))
+      (λ s h. member-and (set_of 32 f) (set_of 32 g) s
+      ∙ ap₂ ◌&&◌ (member-set_of-below 32 f s h) (member-set_of-below 32 g s h))
 
   -- the join of two words
   pub or_word : bit_or (set_of 32 f) (set_of 32 g) ≡ set_of 32 (λ s. f s || g s)
-  or_word = set_of_unique 32 (λ s. f s || g s) (bit_or (set_of 32 f) (set_of 32 g)) (or_lt 32 (set_of 32 f) (set_of 32 g) (set_of-lt 32 f) (set_of-lt 32 g))
-      (λ s h. member-or (set_of 32 f) (set_of 32 g) s ∙ ap₂ ◌||◌ (member-set_of-below 32 f s h) (member-set_of-below 32 g s h))
+  or_word =
+      set_of_unique 32 (λ s. f s || g s) (bit_or (set_of 32 f) (set_of 32 g))
+      (or_lt 32 (set_of 32 f) (set_of 32 g) (set_of-lt 32 f) (set_of-lt 32 g))
+      (λ s h. member-or (set_of 32 f) (set_of 32 g) s
+      ∙ ap₂ ◌||◌ (member-set_of-below 32 f s h) (member-set_of-below 32 g s h))
 
 -- the states that are not in a word
 pub member-not : (X t : ℕ) → X < 2 ^ 32 → t < 32 → member (full - X) t ≡ not (member X t)
@@ -37,9 +45,11 @@ not_word f = set_of_unique 32 (λ s. not (f s)) (full - set_of 32 f) (ones_sub-l
     (λ s h. member-not (set_of 32 f) s (set_of-lt 32 f) h ∙ ap not (member-set_of-below 32 f s h))
 
 -- a set of n states is one of 32 in which no state from n on is
-pub wider : (n : ℕ) (f g : ℕ → Bool) → n ≤ 32 → ((s : ℕ) → s < n → f s ≡ g s) → ((s : ℕ) → n ≤ s → g s ≡ false) → set_of n f ≡ set_of 32 g
+pub wider : (n : ℕ) (f g : ℕ → Bool) → n ≤ 32 → ((s : ℕ) → s < n → f s ≡ g s) → ((s : ℕ) → n ≤ s → g s ≡ false)
+    → set_of n f ≡ set_of 32 g
 wider n f g few same none =
-    set_of_unique 32 g (set_of n f) (lt_of_lt_of_le (set_of-lt n f) (pow_mono few)) (λ s h. member-set_of n f s ∙ go s (dec_lt s n))
+    set_of_unique 32 g (set_of n f) (lt_of_lt_of_le (set_of-lt n f) (pow_mono few))
+    (λ s h. member-set_of n f s ∙ go s (dec_lt s n))
   where
     go : (s : ℕ) → Dec (s < n) → ltb s n && f s ≡ g s
     go s (yes h) = ap (λ (b : Bool). b && f s) (lt-ltb s n h) ∙ same s h
@@ -47,4 +57,6 @@ wider n f g few same none =
 
 -- a set of n states as the list of its marks
 pub word_of_marks : (n : ℕ) (f : ℕ → Bool) → n ≤ 32 → set_of n f ≡ set_of 32 (has (tabulate n f))
-word_of_marks n f few = wider n f (has (tabulate n f)) few (λ s h. sym (get_d_tabulate n f s false h)) (λ s h. get_d_tabulate_past n f s false h)
+word_of_marks n f few =
+    wider n f (has (tabulate n f)) few (λ s h. sym (get_d_tabulate n f s false h))
+    (λ s h. get_d_tabulate_past n f s false h)

@@ -20,7 +20,8 @@ use Rattle.table.specs.Facts.{Wellformed}
 use Rattle.table.specs.Rows.{Rows}
 use Rattle.table.proofs.Bools.{eqb-sym, same_test}
 use Rattle.ctl.specs.Rule.{Quantifier, every, some}
-use Rattle.ctl.specs.Levels.{has, tabulate, next_in}
+use Rattle.ctl.specs.Range.{tabulate}
+use Rattle.ctl.specs.Levels.{has, next_in}
 use Rattle.ctl.specs.Labels.{kept_steps, ends_from, targets, nonempty, is_kept}
 use Rattle.ctl.proofs.Tabulate.{any-true}
 use Rattle.ctl.proofs.Targets.{targets_sound, next_inside}
@@ -41,7 +42,9 @@ any_ends [] s t = refl
 any_ends (x ∷ xs) s t =
     ap₂ (λ (a b : Bool). (a && eqb t x.to) || b) (eqb-sym s x.from) (any_ends xs s t) ∙ go (eqb x.from s)
   where
-    go : (b : Bool) → (b && eqb t x.to) || any (eqb t) (ends_from xs s) ≡ any (eqb t) (cond b (x.to ∷ ends_from xs s) (ends_from xs s))
+    go : (b : Bool)
+        → (b && eqb t x.to) || any (eqb t) (ends_from xs s)
+        ≡ any (eqb t) (cond b (x.to ∷ ends_from xs s) (ends_from xs s))
     go true = refl
     go false = refl
 
@@ -100,11 +103,15 @@ module _ (row : ℕ) (ts : List ℕ) (small : row < 2 ^ 32) (inside : (t : ℕ) 
       (any-true p ts).1 (t, (bits t h).0 r.0, sym (is t h) ∙ r.1))
       (λ e.
       let r = (any-true p ts).0 e in
-      let h = inside r.0 r.1 in
-      (r.0, member-and row Z r.0 ∙ (and-eq-true_iff (member row r.0) (member Z r.0)).1 ((bits r.0 h).1 r.1, is r.0 h ∙ r.2)))
+      let h = inside r.0 r.1 in (
+        r.0,
+        member-and row Z r.0
+            ∙ (and-eq-true_iff (member row r.0) (member Z r.0)).1 ((bits r.0 h).1 r.1, is r.0 h ∙ r.2),
+      ))
 
   -- AX and EX are read off it
-  next_row : (q : Quantifier) (X : ℕ) (Y : List Bool) → X < 2 ^ 32 → ((t : ℕ) → t < 32 → member X t ≡ has Y t) → row_next q row X ≡ next_in q Y ts
+  next_row : (q : Quantifier) (X : ℕ) (Y : List Bool) → X < 2 ^ 32 → ((t : ℕ) → t < 32 → member X t ≡ has Y t)
+      → row_next q row X ≡ next_in q Y ts
   unfolding next_in
   next_row every X Y h is =
       ap₂ ◌&&◌ some_end
@@ -119,7 +126,8 @@ module _ (row : ℕ) (ts : List ℕ) (small : row < 2 ^ 32) (inside : (t : ℕ) 
 module _ {T : Table} {list rows : List ℕ} (k : KeptRows T list rows) where
   -- a kept step ends in one of the 32 states that a word holds
   pub target_inside : (s t : ℕ) → Memᴰ t (targets T list s) → t < 32
-  target_inside s t m = lt_of_lt_of_le (next_inside T k.table list s t (targets_sound T list s t m)).1 k.table.few_states
+  target_inside s t m =
+      lt_of_lt_of_le (next_inside T k.table list s t (targets_sound T list s t m)).1 k.table.few_states
 
   -- bit t of row s says whether t is one of the targets of s
   pub row-targets : (s t : ℕ) → s < 32 → t < 32 → member (get_or rows s 0) t ≡ any (eqb t) (targets T list s)
@@ -131,22 +139,28 @@ module _ {T : Table} {list rows : List ℕ} (k : KeptRows T list rows) where
 
   -- a row is not 0 when its state is kept
   pub row_kept : (s : ℕ) → s < 32 → not (eqb (get_or rows s 0) 0) ≡ is_kept T list s
-  row_kept s h = some_end (get_or rows s 0) (targets T list s) (k.steps.words s h) (target_inside s) (λ t l. row-member s t h l)
+  row_kept s h =
+      some_end (get_or rows s 0) (targets T list s) (k.steps.words s h) (target_inside s) (λ t l. row-member s t h l)
 
   -- AX and EX of a word at a state, read off its row
-  pub row_next_lem : (q : Quantifier) (s X : ℕ) (Y : List Bool) → s < 32 → X < 2 ^ 32 → ((t : ℕ) → t < 32 → member X t ≡ has Y t)
+  pub row_next_lem : (q : Quantifier) (s X : ℕ) (Y : List Bool) → s < 32 → X < 2 ^ 32
+      → ((t : ℕ) → t < 32 → member X t ≡ has Y t)
       → row_next q (get_or rows s 0) X ≡ next_in q Y (targets T list s)
-  row_next_lem q s X Y h = next_row (get_or rows s 0) (targets T list s) (k.steps.words s h) (target_inside s) (λ t l. row-member s t h l) q X Y
+  row_next_lem q s X Y h =
+      next_row (get_or rows s 0) (targets T list s) (k.steps.words s h) (target_inside s)
+      (λ t l. row-member s t h l) q X Y
 
   -- the same of the word of a list of marks
   pub row_next_marks : (q : Quantifier) (s X : ℕ) (Y : List Bool) → s < 32 → X ≡ set_of 32 (has Y)
       → row_next q (get_or rows s 0) X ≡ next_in q Y (targets T list s)
   row_next_marks q s X Y h e =
-      row_next_lem q s X Y h (rw e (set_of-lt 32 (has Y))) (λ t l. ap (λ (x : ℕ). member x t) e ∙ member-set_of-below 32 (has Y) t l)
+      row_next_lem q s X Y h (rw e (set_of-lt 32 (has Y)))
+      (λ t l. ap (λ (x : ℕ). member x t) e ∙ member-set_of-below 32 (has Y) t l)
 
   -- the states at which AX or EX of a word holds
   pub next_word_lem : (q : Quantifier) (X : ℕ) (Y : List Bool) → X ≡ set_of 32 (has Y)
-      → next_word q rows (length T.states) X ≡ set_of 32 (has (tabulate (length T.states) (λ s. next_in q Y (targets T list s))))
+      → next_word q rows (length T.states) X
+      ≡ set_of 32 (has (tabulate (length T.states) (λ s. next_in q Y (targets T list s))))
   unfolding next_word
   next_word_lem q X Y e =
       set_of_cong (length T.states) _ _ (λ s h. row_next_marks q s X Y (lt_of_lt_of_le h k.table.few_states) e)

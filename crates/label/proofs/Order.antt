@@ -20,7 +20,8 @@ use Rattle.label.specs.Analysis.{analysis_verdict}
 pub form_length : (table list : List ℕ) → list_verdict (length (table_of table).steps) list ≡ Ok tt
     → length list ≡ length (table_of table).steps
 unfolding list_verdict
-form_length table list ok = eqb-true (length list) (length (table_of table).steps) (and_parts _ _ (require_accepted ListForm _ ok)).0
+form_length table list ok =
+    eqb-true (length list) (length (table_of table).steps) (and_parts _ _ (require_accepted ListForm _ ok)).0
 
 module _ (room : Bool) (table list : List ℕ) where
   abbrev form : Verdict
@@ -48,10 +49,13 @@ module _ (room : Bool) (table list : List ℕ) where
       go_on = form_first ∙ then_next form after_form ok
 
       pub room_refused : room ≡ false → analysis_verdict room table list ≡ Err ShortBuffer
-      room_refused e = go_on ∙ ap (λ (b : Bool). require ShortBuffer b then require NotTotal (is_total (table_of table) list)) e
+      room_refused e =
+          go_on ∙ ap (λ (b : Bool). require ShortBuffer b then require NotTotal (is_total (table_of table) list)) e
 
-      pub room_passed : room ≡ true → analysis_verdict room table list ≡ require NotTotal (is_total (table_of table) list)
-      room_passed e = go_on ∙ ap (λ (b : Bool). require ShortBuffer b then require NotTotal (is_total (table_of table) list)) e
+      pub room_passed : room ≡ true
+          → analysis_verdict room table list ≡ require NotTotal (is_total (table_of table) list)
+      room_passed e =
+          go_on ∙ ap (λ (b : Bool). require ShortBuffer b then require NotTotal (is_total (table_of table) list)) e
 
 -- what accepting tests say
 module _ (room : Bool) (table list : List ℕ) (ok : analysis_verdict room table list ≡ Ok tt) where
@@ -69,7 +73,8 @@ module _ (room : Bool) (table list : List ℕ) (ok : analysis_verdict room table
   list_accepted = list_parts.0
 
   room_and-total : (require ShortBuffer room ≡ Ok tt) × (require NotTotal (is_total (table_of table) list) ≡ Ok tt)
-  room_and-total = then_accepted (require ShortBuffer room) (require NotTotal (is_total (table_of table) list)) list_parts.1
+  room_and-total =
+      then_accepted (require ShortBuffer room) (require NotTotal (is_total (table_of table) list)) list_parts.1
 
   pub room_accepted : room ≡ true
   room_accepted = require_accepted ShortBuffer room room_and-total.0

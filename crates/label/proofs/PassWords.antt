@@ -15,7 +15,19 @@ use Rattle.sets.proofs.SetOf.{set_of-lt, member-set_of-below, set_of_cong, empty
 use Rattle.table.specs.Table.{Table, node_at, state_at, zero_node}
 use Rattle.table.specs.Facts.{Wellformed}
 use Rattle.table.proofs.Bools.{or_parts}
-use Rattle.ctl.specs.Rule.{Quantifier, Operator, constant, atom, negation, conjunction, disjunction, next, fixpoint, operator_of, bottom_up}
+use Rattle.ctl.specs.Rule.{
+  Quantifier,
+  Operator,
+  constant,
+  atom,
+  negation,
+  conjunction,
+  disjunction,
+  next,
+  fixpoint,
+  operator_of,
+  bottom_up,
+}
 use Rattle.ctl.specs.Levels.{has, next_in, levels}
 use Rattle.ctl.specs.Labels.{marks, targets, is_kept, label_of, label, marked}
 use Rattle.ctl.proofs.Tabulate.{length_tabulate, get_d_tabulate, get_d_tabulate_past}
@@ -41,8 +53,10 @@ below_32 (disjunction a b) h = h
 below_32 (next q a) h = h
 below_32 (fixpoint f q a b) h = h
 
-pub node_children : (T : Table) → Wellformed T → (i : ℕ) → i < length T.nodes → ChildrenBelow 32 (operator_of (node_at T i))
-node_children T wf i h = below_32 (operator_of (node_at T i)) (of-children T wf i h (λ k l. omega (arith, wf.few_nodes)))
+pub node_children : (T : Table) → Wellformed T → (i : ℕ) → i < length T.nodes
+    → ChildrenBelow 32 (operator_of (node_at T i))
+node_children T wf i h =
+    below_32 (operator_of (node_at T i)) (of-children T wf i h (λ k l. omega (arith, wf.few_nodes)))
 
 -- ---- sets of kept states
 
@@ -64,12 +78,14 @@ module _ (T : Table) (wf : Wellformed T) (list : List ℕ) where
           ∙ sym (ap (λ (b : Bool). b && f s) (kept_inside T wf list s (omega arith)))
 
   -- the word of such a set
-  marks_word : (f g : ℕ → Bool) → ((s : ℕ) → g s ≡ is_kept T list s && f s) → set_of 32 g ≡ set_of 32 (has (marks T list f))
+  marks_word : (f g : ℕ → Bool) → ((s : ℕ) → g s ≡ is_kept T list s && f s)
+      → set_of 32 g ≡ set_of 32 (has (marks T list f))
   marks_word f g same = set_of_cong 32 g (has (marks T list f)) (λ s h. same s ∙ sym (has_marks f s))
 
 -- ---- the word of one node
 
-module _ {T : Table} {list rows : List ℕ} (k : KeptRows T list rows) (kept : ℕ) (kept_is : kept ≡ set_of 32 (is_kept T list))
+module _ {T : Table} {list rows : List ℕ} (k : KeptRows T list rows) (kept : ℕ)
+    (kept_is : kept ≡ set_of 32 (is_kept T list))
     (states : List ℕ) (records : StateBytes T states) where
   -- a state of a set of kept states is kept
   set_kept : (X : List Bool) → KeptSet T list X → (s : ℕ) → has X s ≡ true → is_kept T list s ≡ true
@@ -87,12 +103,16 @@ module _ {T : Table} {list rows : List ℕ} (k : KeptRows T list rows) (kept : �
       (λ s h. get_d_tabulate_past (length T.states) _ s false h)
 
   -- the word of an operator is its set, if the words of its children are theirs
-  operator_word : (words : List ℕ) (child : ℕ → List Bool) (o : Operator) → OfChildren (λ i. get_or words i 0 ≡ set_of 32 (has (child i))) o
-      → OfChildren (λ i. KeptSet T list (child i)) o → node_word rows kept (length T.states) states words o ≡ set_of 32 (has (label_of T list o child))
+  operator_word : (words : List ℕ) (child : ℕ → List Bool) (o : Operator)
+      → OfChildren (λ i. get_or words i 0 ≡ set_of 32 (has (child i))) o
+      → OfChildren (λ i. KeptSet T list (child i)) o
+      → node_word rows kept (length T.states) states words o ≡ set_of 32 (has (label_of T list o child))
   unfolding node_word label_of levels
   operator_word words child (constant false) e x =
-      sym (empty 32 _ (set_of-lt 32 _) (λ s h. member-set_of-below 32 _ s h ∙ has_marks T k.table list (λ t. false) s ∙ and-false (is_kept T list s)))
-  operator_word words child (constant true) e x = kept_is ∙ marks_word T k.table list _ _ (λ s. sym (and-true (is_kept T list s)))
+      sym (empty 32 _ (set_of-lt 32 _)
+      (λ s h. member-set_of-below 32 _ s h ∙ has_marks T k.table list (λ t. false) s ∙ and-false (is_kept T list s)))
+  operator_word words child (constant true) e x =
+      kept_is ∙ marks_word T k.table list _ _ (λ s. sym (and-true (is_kept T list s)))
   operator_word words child (atom p) e x =
       ap₂ bit_and kept_is (labelled_word_lem T k.table states records p)
       ∙ and_word (is_kept T list) (λ s. member (state_at T s).label p)
@@ -105,7 +125,9 @@ module _ {T : Table} {list rows : List ℕ} (k : KeptRows T list rows) (kept : �
   operator_word words child (conjunction a b) e x =
       ap₂ bit_and e.0 e.1
       ∙ and_word (has (child a)) (has (child b))
-      ∙ marks_word T k.table list _ _ (λ s. only_kept (is_kept T list s) _ (λ h. set_kept (child a) x.0 s ((and-eq-true_iff (has (child a) s) _).0 h).0))
+      ∙ marks_word T k.table list _ _
+      (λ s. only_kept (is_kept T list s) _
+      (λ h. set_kept (child a) x.0 s ((and-eq-true_iff (has (child a) s) _).0 h).0))
   operator_word words child (disjunction a b) e x =
       ap₂ bit_or e.0 e.1
       ∙ or_word (has (child a)) (has (child b))
@@ -116,7 +138,8 @@ module _ {T : Table} {list rows : List ℕ} (k : KeptRows T list rows) (kept : �
       levels_word_lem k f q (get_or words a 0) (get_or words b 0) (child a) (child b) e.0 e.1 x.1.size (length T.states)
 
   -- the word of node i, from the words of the nodes before it
-  pub node_word_lem : (words : List ℕ) (i : ℕ) → i < length T.nodes → ((j : ℕ) → j < i → get_or words j 0 ≡ set_of 32 (marked T list j))
+  pub node_word_lem : (words : List ℕ) (i : ℕ) → i < length T.nodes
+      → ((j : ℕ) → j < i → get_or words j 0 ≡ set_of 32 (marked T list j))
       → node_word rows kept (length T.states) states words (operator_of (node_at T i)) ≡ set_of 32 (marked T list i)
   node_word_lem words i h below =
       operator_word words (label T list) (operator_of (node_at T i))
@@ -130,7 +153,8 @@ word_past : (T : Table) (list : List ℕ) (i : ℕ) → length T.nodes ≤ i →
 unfolding label set_of
 word_past T list i h =
     let values = bottom_up (label_of T list) [] [] T.nodes in
-    ap (λ (X : List Bool). set_of 32 (has X)) (get_or-eq_default values [] {n = i} (rw (bottom_up-length (label_of T list) [] T.nodes) h))
+    ap (λ (X : List Bool). set_of 32 (has X))
+    (get_or-eq_default values [] {n = i} (rw (bottom_up-length (label_of T list) [] T.nodes) h))
 
 -- before node i: the words of the nodes before it are theirs, and the others are clear
 pub record Passed (T : Table) (list : List ℕ) (i : ℕ) (words : List ℕ) : Type 0 where
@@ -147,7 +171,8 @@ passed_none T list = record {
 }
 
 -- behind the last node the words are those of all nodes
-pub passed-all : (T : Table) (list : List ℕ) (i : ℕ) (words : List ℕ) → i ≡ length T.nodes → Passed T list i words → words ≡ label_words T list
+pub passed-all : (T : Table) (list : List ℕ) (i : ℕ) (words : List ℕ) → i ≡ length T.nodes → Passed T list i words
+    → words ≡ label_words T list
 passed-all T list i words e p =
     ext_get_or 0 words (label_words T list) (p.size ∙ sym (length_tabulate 32 _))
     (λ j h. go j (rw p.size at h) (dec_lt j i) ∙ sym (get_d_tabulate 32 _ j 0 (rw p.size at h)))
@@ -156,11 +181,13 @@ passed-all T list i words e p =
     go j l (yes h) = p.done j h
     go j l (no h) = p.clear j l (omega arith) ∙ sym (word_past T list j (omega arith))
 
-module _ {T : Table} {list rows : List ℕ} (k : KeptRows T list rows) (kept : ℕ) (kept_is : kept ≡ set_of 32 (is_kept T list))
+module _ {T : Table} {list rows : List ℕ} (k : KeptRows T list rows) (kept : ℕ)
+    (kept_is : kept ≡ set_of 32 (is_kept T list))
     (states : List ℕ) (records : StateBytes T states) where
   -- the word of a node is set behind those of the nodes before it
   pub passed_next : (i : ℕ) (words : List ℕ) → i < length T.nodes → Passed T list i words
-      → Passed T list (suc i) (set words i (node_word rows kept (length T.states) states words (operator_of (node_at T i))))
+      → Passed T list (suc i) (set words i
+      (node_word rows kept (length T.states) states words (operator_of (node_at T i))))
   passed_next i words h p = record {
     size = length-set words i _ ∙ p.size;
     done = λ j l. go j l (ℕ_discrete j i);
@@ -182,7 +209,8 @@ module _ {T : Table} {list rows : List ℕ} (k : KeptRows T list rows) (kept : �
   pass_from : (d i : ℕ) (words : List ℕ) → i + d ≡ length T.nodes → Passed T list i words
       → pass_words rows kept (length T.states) states i (drop i T.nodes) words ≡ label_words T list
   unfolding pass_words
-  pass_from zero i words e p = rw (drop_of_length-le T.nodes {i = i} (omega arith)) (passed-all T list i words (omega arith) p)
+  pass_from zero i words e p =
+      rw (drop_of_length-le T.nodes {i = i} (omega arith)) (passed-all T list i words (omega arith) p)
   pass_from (suc d) i words e p =
       let h : i < length T.nodes = omega arith in
       rw (drop-cons T.nodes i zero_node h) (pass_from d (suc i) _ (omega arith) (passed_next i words h p))

@@ -1,4 +1,5 @@
--- The laws of reading order: it has every state once, initial ones first and ascending, and what a test picks from it comes in two parts.
+-- The laws of reading order: it has every state once, initial ones first and ascending, and what a test picks from it
+-- comes in two parts.
 use Prim.Native.Nat.{ℕ, ◌<◌}
 use mathlib.Core.Path.{◌≡◌, refl, sym, ap, ap₂, ◌∙◌}
 use mathlib.Core.Bool.{Bool, true, false, not, ◌&&◌, true≢false}
@@ -9,7 +10,7 @@ use native.Mathlib.Omega.{arith}
 use borrow.Author.Tests.{not-true}
 use lib.ListN.{length, length-append}
 use Rattle.sets.specs.Member.{member, set_of, count_of}
-use Rattle.ctl.specs.Levels.{below, select}
+use Rattle.ctl.specs.Range.{below, select}
 use Rattle.ctl.proofs.Select.{in_below, in_select}
 use Rattle.label.specs.ReadingOrder.{reading_order, states_with, ReadBefore, InReadingOrder}
 use Rattle.label.proofs.Select.{select-append, select-select, select_parts, select_count, select_cong}
@@ -28,10 +29,14 @@ module _ (initial : ℕ → Bool) where
   -- ---- of the order
 
   -- states that are alike in being initial, ascending
-  part_in_order : (p : ℕ → Bool) (b : Bool) → ((s : ℕ) → p s ≡ true → initial s ≡ b) → InReadingOrder initial (select p (below 32))
+  part_in_order : (p : ℕ → Bool) (b : Bool) → ((s : ℕ) → p s ≡ true → initial s ≡ b)
+      → InReadingOrder initial (select p (below 32))
   part_in_order p b alike =
       pairwise_map ◌<◌ (ReadBefore initial) (select p (below 32))
-      (λ x y m n l. inr (alike x ((in_select p (below 32) x).0 m).1 ∙ sym (alike y ((in_select p (below 32) y).0 n).1), l))
+      (λ x y m n l. inr (
+        alike x ((in_select p (below 32) x).0 m).1 ∙ sym (alike y ((in_select p (below 32) y).0 n).1),
+        l,
+      ))
       (select_pairwise ◌<◌ p (below 32) (tabulate_ascending 32 (λ s. s) (λ i j l. l)))
 
   pub order_in_order : InReadingOrder initial (reading_order initial)
@@ -40,7 +45,10 @@ module _ (initial : ℕ → Bool) where
       pairwise_append (ReadBefore initial) (select initial (below 32)) (select others (below 32))
       (part_in_order initial true (λ s e. e))
       (part_in_order others false (λ s e. not-true (initial s) e))
-      (λ x y m n. inl (((in_select initial (below 32) x).0 m).1, not-true (initial y) ((in_select others (below 32) y).0 n).1))
+      (λ x y m n. inl (
+        ((in_select initial (below 32) x).0 m).1,
+        not-true (initial y) ((in_select others (below 32) y).0 n).1,
+      ))
 
   -- it has all states
   pub order_member : (s : ℕ) → Memᴰ s (reading_order initial) ↔ (s < 32)
@@ -63,10 +71,12 @@ module _ (initial : ℕ → Bool) where
 
   module _ (p : ℕ → Bool) where
     -- the initial ones, and behind them the others
-    order_parts : states_with (reading_order initial) p ≡ select (λ s. p s && initial s) (below 32) ++ select (λ s. p s && not (initial s)) (below 32)
+    order_parts : states_with (reading_order initial) p
+        ≡ select (λ s. p s && initial s) (below 32) ++ select (λ s. p s && not (initial s)) (below 32)
     order_parts =
         select-append p (select initial (below 32)) (select (λ s. not (initial s)) (below 32))
-        ∙ ap₂ (λ (xs ys : List ℕ). xs ++ ys) (select-select p initial (below 32)) (select-select p (λ s. not (initial s)) (below 32))
+        ∙ ap₂ (λ (xs ys : List ℕ). xs ++ ys) (select-select p initial (below 32))
+        (select-select p (λ s. not (initial s)) (below 32))
 
     -- as many as have p
     pub order_count : length (states_with (reading_order initial) p) ≡ count_of 32 p
@@ -80,12 +90,16 @@ module _ (initial : ℕ → Bool) where
     states_in_order = select_pairwise (ReadBefore initial) p (reading_order initial) order_in_order
 
     -- no order is left free: a list that has them and no other, in reading order, is this one
-    pub states-only : (states : List ℕ) → ((s : ℕ) → Memᴰ s states ↔ Memᴰ s (states_with (reading_order initial) p)) → InReadingOrder initial states
+    pub states-only : (states : List ℕ) → ((s : ℕ) → Memᴰ s states ↔ Memᴰ s (states_with (reading_order initial) p))
+        → InReadingOrder initial states
         → states ≡ states_with (reading_order initial) p
-    states-only states same order = pairwise_only (ReadBefore initial) one_way states (states_with (reading_order initial) p) order states_in_order same
+    states-only states same order =
+        pairwise_only (ReadBefore initial) one_way states
+        (states_with (reading_order initial) p) order states_in_order same
 
 -- tests that agree on all states
-pub order_cong : (i j p q : ℕ → Bool) → ((s : ℕ) → s < 32 → i s ≡ j s) → ((s : ℕ) → s < 32 → p s ≡ q s) → states_with (reading_order i) p ≡ states_with (reading_order j) q
+pub order_cong : (i j p q : ℕ → Bool) → ((s : ℕ) → s < 32 → i s ≡ j s) → ((s : ℕ) → s < 32 → p s ≡ q s)
+    → states_with (reading_order i) p ≡ states_with (reading_order j) q
 order_cong i j p q same-initial same =
     ap (select p) (ap₂ (λ (xs ys : List ℕ). xs ++ ys)
     (select_cong i j (below 32) (λ s m. same-initial s ((in_below 32 s).0 m)))
@@ -95,7 +109,9 @@ order_cong i j p q same-initial same =
 -- of sets: the states that it shares with the initial ones, and behind them the others
 pub order_sets : (set initial : ℕ)
     → states_with (reading_order (member initial)) (member set)
-    ≡ states_with (below 32) (member (set_of 32 (λ t. member set t && member initial t))) ++ states_with (below 32) (member (set_of 32 (λ t. member set t && not (member initial t))))
+    ≡ states_with (below 32) (member (set_of 32 (λ t. member set t && member initial t)))
+    ++ states_with (below 32) (member (set_of 32 (λ t. member set t && not (member initial t))))
 order_sets set initial =
     order_parts (member initial) (member set)
-    ∙ sym (ap₂ (λ (xs ys : List ℕ). xs ++ ys) (set-states (λ t. member set t && member initial t)) (set-states (λ t. member set t && not (member initial t))))
+    ∙ sym (ap₂ (λ (xs ys : List ℕ). xs ++ ys) (set-states (λ t. member set t && member initial t))
+    (set-states (λ t. member set t && not (member initial t))))

@@ -7,14 +7,16 @@ use native.Mathlib.Omega.{arith}
 use lib.ListN.{length}
 use Rattle.sets.specs.Member.{count_of}
 use Rattle.sets.proofs.SetOf.{count_of_low}
-use Rattle.ctl.specs.Levels.{tabulate, select}
+use Rattle.ctl.specs.Range.{tabulate, select}
 
 module _ (p : ℕ → Bool) where
   -- as many of f 0, .., f (n - 1) are selected as have p
   pub select_count : (n : ℕ) (f : ℕ → ℕ) → length (select p (tabulate n f)) ≡ count_of n (λ s. p (f s))
   unfolding select tabulate count_of
   select_count zero f = refl
-  select_count (suc n) f = go (p (f zero)) ∙ ap (λ (x : ℕ). cond (p (f zero)) 1 0 + x) (select_count n (λ s. f (suc s))) ∙ sym (count_of_low n (λ s. p (f s)))
+  select_count (suc n) f =
+      go (p (f zero)) ∙ ap (λ (x : ℕ). cond (p (f zero)) 1 0 + x) (select_count n (λ s. f (suc s)))
+      ∙ sym (count_of_low n (λ s. p (f s)))
     where
       rest : List ℕ
       rest = select p (tabulate n (λ s. f (suc s)))
@@ -30,7 +32,8 @@ module _ (p : ℕ → Bool) where
   select-append (x ∷ xs) ys = go (p x) (select-append xs ys)
     where
       go : (b : Bool) → select p (xs ++ ys) ≡ select p xs ++ select p ys
-          → cond b (x ∷ select p (xs ++ ys)) (select p (xs ++ ys)) ≡ cond b (x ∷ select p xs) (select p xs) ++ select p ys
+          → cond b (x ∷ select p (xs ++ ys)) (select p (xs ++ ys))
+          ≡ cond b (x ∷ select p xs) (select p xs) ++ select p ys
       go true e = ap (λ (zs : List ℕ). x ∷ zs) e
       go false e = e
 
@@ -52,12 +55,16 @@ module _ (p q : ℕ → Bool) where
       both : List ℕ
       both = select (λ k. p k && q k) ks
 
-      go : (b : Bool) → select p (select q ks) ≡ both → select p (cond b (k ∷ select q ks) (select q ks)) ≡ cond (p k && b) (k ∷ both) both
-      go true e = ap (λ (xs : List ℕ). cond (p k) (k ∷ xs) xs) e ∙ ap (λ (b : Bool). cond b (k ∷ both) both) (sym (and-true (p k)))
+      go : (b : Bool) → select p (select q ks) ≡ both
+          → select p (cond b (k ∷ select q ks) (select q ks)) ≡ cond (p k && b) (k ∷ both) both
+      go true e =
+          ap (λ (xs : List ℕ). cond (p k) (k ∷ xs) xs) e
+          ∙ ap (λ (b : Bool). cond b (k ∷ both) both) (sym (and-true (p k)))
       go false e = e ∙ ap (λ (b : Bool). cond b (k ∷ both) both) (sym (and-false (p k)))
 
   -- those that have q and those that lack it are all
-  pub select_parts : (ks : List ℕ) → length (select (λ k. p k && q k) ks) + length (select (λ k. p k && not (q k)) ks) ≡ length (select p ks)
+  pub select_parts : (ks : List ℕ)
+      → length (select (λ k. p k && q k) ks) + length (select (λ k. p k && not (q k)) ks) ≡ length (select p ks)
   unfolding select
   select_parts [] = refl
   select_parts (k ∷ ks) = go (p k) (q k) (select_parts ks)
@@ -69,7 +76,8 @@ module _ (p q : ℕ → Bool) where
       without = select (λ k. p k && not (q k)) ks
 
       go : (b c : Bool) → length with_q + length without ≡ length (select p ks)
-          → length (cond (b && c) (k ∷ with_q) with_q) + length (cond (b && not c) (k ∷ without) without) ≡ length (cond b (k ∷ select p ks) (select p ks))
+          → length (cond (b && c) (k ∷ with_q) with_q) + length (cond (b && not c) (k ∷ without) without)
+          ≡ length (cond b (k ∷ select p ks) (select p ks))
       go true true e = omega arith
       go true false e = omega arith
       go false c e = e

@@ -85,7 +85,8 @@ module _ (entries room : ℕ) (table list : List ℕ) where
   of_table UnreachedStep x = x
 
   too_few : leb entries room ≡ false → room < entries
-  too_few f = let short : ¬ (entries ≤ room) = (λ h. true≢false (sym (le-leb entries room h) ∙ f)) in omega (arith, short)
+  too_few f = let short : ¬ (entries ≤ room) = (λ h. true≢false (sym (le-leb entries room h) ∙ f)) in
+      omega (arith, short)
 
   pub tests_refuse : (r : Refusal) → analysis_verdict (leb entries room) table list ≡ Err r → P r
   unfolding analysis_verdict

@@ -13,15 +13,18 @@ use Rattle.label.specs.declared.room.Room.{Room}
 use Rattle.label.specs.Analysis.{analysis_verdict, analysis_at, analysis_of, room_fits, sets_of}
 
 -- the test 11 and its sets are the last part of the analysis
-pub at_total : (b : Bool) (sets : Analysis) → ◌≡◌ {A = Result Analysis Refusal} (cond b (Ok sets) (Err NotTotal)) (analysis_at (require NotTotal b) sets)
+pub at_total : (b : Bool) (sets : Analysis)
+    → ◌≡◌ {A = Result Analysis Refusal} (cond b (Ok sets) (Err NotTotal)) (analysis_at (require NotTotal b) sets)
 at_total true sets = refl
 at_total false sets = refl
 
-passed : (v : Verdict) (sets a : Analysis) → ◌≡◌ {A = Result Analysis Refusal} (Ok a) (analysis_at v sets) → (v ≡ Ok tt) × (a ≡ sets)
+passed : (v : Verdict) (sets a : Analysis) → ◌≡◌ {A = Result Analysis Refusal} (Ok a) (analysis_at v sets)
+    → (v ≡ Ok tt) × (a ≡ sets)
 passed (Ok tt) sets a e = (refl, cc)
 passed (Err r) sets a e = absurd cc
 
-refused : (v : Verdict) (sets : Analysis) (r : Refusal) → ◌≡◌ {A = Result Analysis Refusal} (Err r) (analysis_at v sets) → v ≡ Err r
+refused : (v : Verdict) (sets : Analysis) (r : Refusal) → ◌≡◌ {A = Result Analysis Refusal} (Err r) (analysis_at v sets)
+    → v ≡ Err r
 refused (Ok tt) sets r e = absurd cc
 refused (Err q) sets r e = cc
 
@@ -29,7 +32,8 @@ module _ (room : Room) (table list : List ℕ) where
   abbrev verdict : Verdict
   verdict = analysis_verdict (room_fits room (table_of table)) table list
 
-  pub way_passed : (a : Analysis) → Ok a ≡ analysis_of room table list → (verdict ≡ Ok tt) × (a ≡ sets_of (table_of table) list)
+  pub way_passed : (a : Analysis) → Ok a ≡ analysis_of room table list
+      → (verdict ≡ Ok tt) × (a ≡ sets_of (table_of table) list)
   way_passed a e = passed verdict (sets_of (table_of table) list) a e
 
   pub way_refused : (r : Refusal) → Err r ≡ analysis_of room table list → verdict ≡ Err r

@@ -4,11 +4,11 @@ use Rattle.sets.specs.Member.{set_of}
 use Rattle.table.specs.declared.refusal.Refusal.{Refusal}
 use Rattle.table.specs.declared.refusal.Refusal.TheVariants.{ShortBuffer, NotTotal}
 use Rattle.table.specs.Verdict.{Verdict, require, ◌then◌}
-use Rattle.table.specs.Table.{Table, table_of}
-use Rattle.table.specs.Accept.{initial_at, table_verdict, list_verdict}
+use Rattle.table.specs.Table.{Table, table_of, initial_at}
+use Rattle.table.specs.Accept.{table_verdict, list_verdict}
 use Rattle.table.specs.Rows.{target_sets}
 use Rattle.ctl.specs.Rule.{root_index}
-use Rattle.ctl.specs.Levels.{tabulate}
+use Rattle.ctl.specs.Range.{tabulate}
 use Rattle.ctl.specs.Labels.{kept_steps, is_kept, marked}
 use Rattle.ctl.specs.Tests.{is_total}
 use Rattle.label.specs.declared.analysis.Analysis.{Analysis}
@@ -53,4 +53,5 @@ analysis_at (Ok tt) sets = Ok sets
 analysis_at (Err r) sets = Err r
 
 abbrev pub analysis_of : Room → List ℕ → List ℕ → Result Analysis Refusal
-analysis_of room table list = analysis_at (analysis_verdict (room_fits room (table_of table)) table list) (sets_of (table_of table) list)
+analysis_of room table list =
+    analysis_at (analysis_verdict (room_fits room (table_of table)) table list) (sets_of (table_of table) list)

@@ -1,10 +1,9 @@
--- 01, calls 3 and 4: what Label and Holding answer, and what every lent entry holds afterwards.
+-- What Label and Holding answer, and what every lent entry holds afterwards: Specification, "Calls".
 use Rattle.std.specs.Prelude.{ℕ, List, ◌++◌, leb, length, drop, Result, Ok, Err}
 use Rattle.table.specs.declared.refusal.Refusal.{Refusal}
 use Rattle.table.specs.Verdict.{Verdict}
 use Rattle.table.specs.Buffer.{on_accepted, over}
-use Rattle.table.specs.Table.{Table, table_of}
-use Rattle.table.specs.Accept.{initial_at}
+use Rattle.table.specs.Table.{Table, table_of, initial_at}
 use Rattle.ctl.specs.Rule.{root_index}
 use Rattle.ctl.specs.Labels.{marked}
 use Rattle.label.specs.Analysis.{analysis_verdict, label_words}
@@ -16,7 +15,8 @@ label_verdict table list room = analysis_verdict (leb (length (table_of table).n
 
 abbrev pub label_buffer : List ℕ → List ℕ → List ℕ → List ℕ
 label_buffer table list buffer =
-    on_accepted (label_verdict table list (length buffer)) (over (length (table_of table).nodes) (label_words (table_of table) list) buffer) buffer
+    on_accepted (label_verdict table list (length buffer))
+    (over (length (table_of table).nodes) (label_words (table_of table) list) buffer) buffer
 
 -- Holding: the states of the root's set, in reading order
 abbrev pub held_states : Table → List ℕ → List ℕ
@@ -31,8 +31,10 @@ holding_at (Ok tt) count = Ok count
 holding_at (Err r) count = Err r
 
 abbrev pub holding_answer : List ℕ → List ℕ → ℕ → Result ℕ Refusal
-holding_answer table list room = holding_at (holding_verdict table list room) (length (held_states (table_of table) list))
+holding_answer table list room =
+    holding_at (holding_verdict table list room) (length (held_states (table_of table) list))
 
 abbrev pub holding_buffer : List ℕ → List ℕ → List ℕ → List ℕ
 holding_buffer table list buffer =
-    on_accepted (holding_verdict table list (length buffer)) (held_states (table_of table) list ++ drop (length (held_states (table_of table) list)) buffer) buffer
+    on_accepted (holding_verdict table list (length buffer))
+    (held_states (table_of table) list ++ drop (length (held_states (table_of table) list)) buffer) buffer

@@ -1,10 +1,9 @@
--- What Label and Holding promise of a call that they accept, in path meaning: which bits are set, which states stand in the
--- buffer and in which order, and that every other entry stays.
+-- What Label and Holding promise of a call that they accept, in path meaning: which bits are set, which states stand
+-- in the buffer and in which order, and that every other entry stays.
 use Rattle.std.specs.Prelude.{ℕ, ◌≤◌, ◌<◌, ◌≡◌, true, false, ◌↔◌, length, get_or}
 use mathlib.Core.List.{List, Memᴰ}
 use Rattle.sets.specs.Member.{member}
-use Rattle.table.specs.Table.{Table}
-use Rattle.table.specs.Accept.{initial_at}
+use Rattle.table.specs.Table.{Table, initial_at}
 use Rattle.table.specs.Buffer.{Written}
 use Rattle.ctl.specs.Rule.{root_index}
 use Rattle.ctl.specs.Kept.{Kept, NodeHolds}

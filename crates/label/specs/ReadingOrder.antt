@@ -1,7 +1,8 @@
--- 02, A2: the order in which Holding writes states. The initial states come first, ascending, then the others, ascending.
+-- The order in which Holding writes states (Specification, "Calls"): the initial states first, ascending, then the
+-- others, ascending.
 use Rattle.std.specs.Prelude.{ℕ, ◌<◌, ◌≡◌, Bool, true, false, not, ◌⊎◌}
 use mathlib.Core.List.{List, [], ◌∷◌, ◌++◌, Memᴰ}
-use Rattle.ctl.specs.Levels.{below, select}
+use Rattle.ctl.specs.Range.{below, select}
 
 -- the order itself: the 32 states that a table has at most, each in its place. `initial` tells which are initial
 abbrev pub reading_order : (ℕ → Bool) → List ℕ

@@ -1,4 +1,5 @@
--- Labels on machine words: a set of states is a number, its bits the states. `rows` has the set of kept next states of each state.
+-- Labels on machine words: a set of states is a number, its bits the states. `rows` has the set of kept next states
+-- of each state.
 use Rattle.std.specs.Prelude.{ℕ, zero, suc, ◌-◌, ◌<◌, Bool, true, false, not, ◌&&◌, List, [], ◌∷◌, eqb, get_or, set}
 use Rattle.std.specs.Int.Bits.{bit_and, bit_or}
 use Rattle.sets.specs.Member.{member, set_of}
@@ -7,8 +8,21 @@ use Rattle.table.specs.declared.operator.Family.TheVariants.{Release, Until, Eve
 use Rattle.table.specs.declared.record.Node.{Node}
 use Rattle.table.specs.StateSets.{labelled_word}
 use Rattle.table.specs.Accept.{all}
-use Rattle.ctl.specs.Rule.{Quantifier, every, some, Operator, constant, atom, negation, conjunction, disjunction, next, fixpoint, operator_of}
-use Rattle.ctl.specs.Levels.{below}
+use Rattle.ctl.specs.Rule.{
+  Quantifier,
+  every,
+  some,
+  Operator,
+  constant,
+  atom,
+  negation,
+  conjunction,
+  disjunction,
+  next,
+  fixpoint,
+  operator_of,
+}
+use Rattle.ctl.specs.Range.{below}
 
 -- all 32 bits
 abbrev pub full : ℕ

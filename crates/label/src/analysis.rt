@@ -8,8 +8,10 @@ use crate::room::{Room, room_fits};
 use crate::rows::KeptRows;
 use table::{Accepted, Refusal};
 
-// The kept next states of each state, the initial states, the kept states, the root's set and the set of each node: a record of the definitions too, which
-// have no `KeptRows`.
+/// What a total list makes of a table, as sets of states: `rows` has the kept next states of each state, `words` the
+/// set of each node, clear past the last one, and `root` that of the root. `initial` has every initial state, kept or
+/// not.
+// A record of the definitions too, which have no `KeptRows`.
 #[derive(Clone, Copy)]
 pub struct Analysis {
     pub rows: [u32; 32],
@@ -38,7 +40,7 @@ fn total_sets(table: &Accepted<'_>, list: &[u8]) -> Result<Analysis, Refusal>
     })
 }
 
-// The tests of a list and of the room in their order, and the sets of a list that passes them.
+/// The tests of a list and of the room in their order, 9 to 11, and the sets of a list that passes them.
 pub fn analyse(table: &Accepted<'_>, list: &[u8], room: Room) -> Result<Analysis, Refusal>
     ensures { result ≡ analysis_of room table.now.bytes.now list.now }
 {

@@ -6,7 +6,7 @@ use crate::rows::KeptRows;
 use table::{Family, Quantifier};
 
 // AX or EX of a set at a state with this row. A state without a next state has neither.
-pub fn row_next(q: Quantifier, row: u32, set: u32) -> bool
+fn row_next(q: Quantifier, row: u32, set: u32) -> bool
     ensures { result ≡ row_next q row set }
 {
     match q {
@@ -32,7 +32,8 @@ impl KeptRows {
     pub fn next_states(&self, q: Quantifier, set: u32) -> u32
         ensures { result ≡ next_word q self.now.rows self.now.states set }
     {
-        // There are at most 32 states. The bound is said in the code too, so that the compiler can leave out the test of the bound at each state.
+        // There are at most 32 states. The bound is said in the code too, so that the compiler can leave out the test
+        // of the bound at each state.
         sets::collect(self.states.min(32), |s| row_next(q, self.rows[s], set))
     }
 

@@ -26,7 +26,9 @@ fn node_states(o: Operator, words: &[u32; 32], k: &KeptRows, states: &[u8]) -> u
 
 // Takes the array of node sets and returns it anew, with the set of each node of the table.
 pub fn label_pass(words: [u32; 32], table: &Accepted<'_>, k: &KeptRows) -> [u32; 32]
-    ensures { result ≡ pass_words k.now.rows k.now.kept k.now.states (states_part table.now.bytes.now) 0 (table_of table.now.bytes.now).nodes words }
+    ensures { result
+        ≡ pass_words k.now.rows k.now.kept k.now.states (states_part table.now.bytes.now) 0
+        (table_of table.now.bytes.now).nodes words }
 {
     let mut next = words;
     for i in 0..table.node_count() {

@@ -5,10 +5,10 @@ ghost use Rattle.label.specs.Analysis.{room_fits};
 
 use table::Accepted;
 
-// What a lent buffer must have an entry for, and how many it has. A closure that counts the entries would say no more, and its clauses would stand in
-// the contract of the analysis. A test by each caller would put the order of
-// the list's form, the room and whether the list is total in three places.
-#[derive(Clone, Copy)]
+/// What a lent buffer must have an entry for, and how many it has: each node, each state, or nothing.
+// A closure that counts the entries would say no more, and its clauses would stand in the contract of the analysis. A
+// test by each caller would put the order of the list's form, the room and whether the list is total in three places.
+#[derive(Clone, Copy, Debug, PartialEq, Eq)]
 pub enum Room {
     Any,
     Nodes(usize),

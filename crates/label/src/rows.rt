@@ -18,8 +18,8 @@ pub struct KeptRows {
 }
 
 impl KeptRows {
-    // That the list is as long as the steps is asked here, in `kept_rows` and in `total_sets`. A struct of table and list would be no plainer: each clause
-    // would take both out of it again.
+    // That the list is as long as the steps is asked here, in `kept_rows` and in `total_sets`. A struct of table and
+    // list would be no plainer: each clause would take both out of it again.
     pub fn new(table: &Accepted<'_>, list: &[u8]) -> KeptRows
         requires { length list.now ≡ length (table_of table.now.bytes.now).steps }
         ensures rows_are { result.rows ≡ target_sets (kept_steps (table_of table.now.bytes.now).steps list.now) }
@@ -30,7 +30,7 @@ impl KeptRows {
         KeptRows {
             rows,
             states,
-            kept: kept_states(&rows, states),
+            kept: states_with_next(&rows, states),
         }
     }
 
@@ -47,8 +47,9 @@ impl KeptRows {
     }
 }
 
-// One pass over the steps: a kept step sets its bit. `table::target_sets` lets every step through; one pass for both, over a closure, is no
-// plainer: the rows of the steps that pass by their numbers would be a definition of their own, and both would have to be shown from it.
+// One pass over the steps: a kept step sets its bit. `table::target_sets` lets every step through; one pass for both,
+// over a closure, is no plainer: the rows of the steps that pass by their numbers would be a definition of their own,
+// and both would have to be shown from it.
 fn kept_rows(table: &Accepted<'_>, list: &[u8]) -> [u32; 32]
     requires { length list.now ≡ length (table_of table.now.bytes.now).steps }
     ensures { result ≡ target_sets (kept_steps (table_of table.now.bytes.now).steps list.now) }
@@ -64,7 +65,7 @@ fn kept_rows(table: &Accepted<'_>, list: &[u8]) -> [u32; 32]
 }
 
 // The kept states: those with a next state.
-fn kept_states(rows: &[u32; 32], n: usize) -> u32
+fn states_with_next(rows: &[u32; 32], n: usize) -> u32
     requires { n ≤ 32 }
     ensures { result ≡ kept_word rows.now n }
 {

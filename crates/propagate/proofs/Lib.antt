@@ -1,3 +1,3 @@
 pub mod Chain
-pub mod JoinedRows
+pub mod AddedRow
 pub mod MarkedLaws

@@ -6,19 +6,19 @@ ghost use Rattle.propagate.specs.Marked.{RowsMarked};
 
 use crate::graph::Graph;
 use crate::layout::add_step;
-use rows::{Report, Row, both, push, step_row, union};
+use rows::{ROW_WORDS, Report, Row, both, push, step_row, union};
 
-// What going back from N found: what is added to the row of the ends, and the report on the step rows.
+/// What going back from N found: what is added to the row of the ends, and the report on the step rows.
 #[derive(Clone, Copy)]
 pub struct Back {
     pub end: Row,
     pub report: Report,
 }
 
-// Adds to the step rows what N, known at each state as `ahead` says, forces of them.
+/// Adds to the step rows what N, known at each state as `ahead` says, forces of them.
 pub fn go_back(
     graph: &Graph,
-    rows: &mut [u32; 130],
+    rows: &mut [u32; ROW_WORDS],
     looks: &mut [u32],
     ahead: Row,
     end: Row,

@@ -1,5 +1,6 @@
-// A level of a fixed-point node: level 0 is the row of b and level n that of the node, the others lie in the lent words from `base` on, two words a row,
-// for C lends single ones. The words of the states to look at begin at `word`: those of the levels 1 to n.
+// A level of a fixed-point node: level 0 is the row of b and level n that of the node, the others lie in the lent
+// words from `base` on, two words a row, for C lends single ones. The words of the states to look at begin at `word`:
+// those of the levels 1 to n.
 ghost use Rattle.std.specs.Prelude.{◌≡◌, false, ◌≤◌, ◌<◌, length};
 ghost use Rattle.readers.specs.Readers.{words_end};
 ghost use Rattle.propagate.specs.Memory.{memory, stepped, go_back_more};
@@ -10,14 +11,16 @@ use crate::adding::{RowOf, add_to};
 use crate::back::go_back;
 use crate::graph::Graph;
 use crate::layout::{add_node, node_row};
-use rows::{Joined, Report, Row, ahead, both, is_none, join, mask, row_at, turn};
+use rows::{Joined, ROW_WORDS, Report, Row, ahead, both, is_none, join, mask, row_at, turn};
 use table::Family;
 
-// That a fixed point fits the memory (`Fits`), and that a level is one of its n, is asked in the contracts and is no invariant: `Fits` speaks of the lent
-// words too, which change hands at each call, and the definitions speak of fixed points anywhere. Graph, rows, words, fixed point and level are handed on
-// one by one, since some are changed and some are lent in parts. `every` is a bool, as `turn` takes it.
+// That a fixed point fits the memory (`Fits`), and that a level is one of its n, is asked in the contracts and is no
+// invariant: `Fits` speaks of the lent words too, which change hands at each call, and the definitions speak of fixed
+// points anywhere. Graph, rows, words, fixed point and level are handed on one by one, since some are changed and
+// some are lent in parts. `every` is a bool, as `turn` takes it.
 
-// A fixed-point node: its family, its number and children, whether it is of every path, where its levels lie, and where their words do.
+/// A fixed-point node: its family, its number and children, whether it is of every path, where its levels lie, and
+/// where their words do.
 #[derive(Clone, Copy)]
 pub struct Fixpoint {
     pub family: Family,
@@ -29,7 +32,8 @@ pub struct Fixpoint {
     pub word: usize,
 }
 
-pub fn level_row(rows: &[u32; 130], words: &[u32], n: usize, x: Fixpoint, m: usize) -> Row
+/// The row of level m, of the levels 0 to n.
+pub fn level_row(rows: &[u32; ROW_WORDS], words: &[u32], n: usize, x: Fixpoint, m: usize) -> Row
     requires fits { Fits n x rows.now words.now }
     requires m_le_n { m ≤ n }
     ensures { result ≡ level_at n x m (memory rows.now words.now) }
@@ -45,7 +49,7 @@ pub fn level_row(rows: &[u32; 130], words: &[u32], n: usize, x: Fixpoint, m: usi
 
 fn add_level(
     graph: &Graph,
-    rows: &mut [u32; 130],
+    rows: &mut [u32; ROW_WORDS],
     words: &mut [u32],
     looks: &mut [u32],
     x: Fixpoint,
@@ -75,7 +79,7 @@ fn add_level(
 // What is known around level m + 1 at the states of a set, joined: the level, a and b, and N over the level below.
 fn joined_at(
     graph: &Graph,
-    rows: &[u32; 130],
+    rows: &[u32; ROW_WORDS],
     words: &[u32],
     x: Fixpoint,
     m: usize,
@@ -98,7 +102,7 @@ fn joined_at(
 // Adds what the join gives to the level, a and b.
 fn add_joined(
     graph: &Graph,
-    rows: &mut [u32; 130],
+    rows: &mut [u32; ROW_WORDS],
     words: &mut [u32],
     looks: &mut [u32],
     x: Fixpoint,
@@ -109,7 +113,8 @@ fn add_joined(
     requires has_words { HasWords graph.now.states x looks.old }
     requires room { words_end graph.now.readers ≤ length looks.old }
     requires m_lt_n { m < graph.now.states }
-    ensures value { stepped rows.new words.new result ≡ add_joined graph.now.targets graph.now.states x m j (memory rows.old words.old) }
+    ensures value { stepped rows.new words.new result
+        ≡ add_joined graph.now.targets graph.now.states x m j (memory rows.old words.old) }
     ensures marked { RowsMarked graph.now.readers looks.old looks.new rows.old rows.new }
     ensures calm { result.changed ≡ false → looks.new ≡ looks.old }
     ensures levels { LevelsMarked graph.now.readers graph.now.states x looks.old looks.new words.old words.new }
@@ -129,7 +134,7 @@ fn add_joined(
 // Back from N to the steps and the level below, with what is known of N beside what its ends say.
 fn level_back(
     graph: &Graph,
-    rows: &mut [u32; 130],
+    rows: &mut [u32; ROW_WORDS],
     words: &mut [u32],
     looks: &mut [u32],
     x: Fixpoint,
@@ -141,7 +146,9 @@ fn level_back(
     requires has_words { HasWords graph.now.states x looks.old }
     requires room { words_end graph.now.readers ≤ length looks.old }
     requires m_lt_n { m < graph.now.states }
-    ensures value { stepped rows.new words.new result ≡ go_back_more graph.now.targets graph.now.states x.every more below (add_level graph.now.states x m) (memory rows.old words.old) }
+    ensures value { stepped rows.new words.new result
+        ≡ go_back_more graph.now.targets graph.now.states x.every more below (add_level graph.now.states x m)
+        (memory rows.old words.old) }
     ensures marked { RowsMarked graph.now.readers looks.old looks.new rows.old rows.new }
     ensures calm { result.changed ≡ false → looks.new ≡ looks.old }
     ensures levels { LevelsMarked graph.now.readers graph.now.states x looks.old looks.new words.old words.new }
@@ -157,10 +164,10 @@ fn level_back(
     )
 }
 
-// Level m + 1 over level m, at the states of a set.
+/// Level m + 1 over level m, at the states of a set.
 pub fn level_step(
     graph: &Graph,
-    rows: &mut [u32; 130],
+    rows: &mut [u32; ROW_WORDS],
     words: &mut [u32],
     looks: &mut [u32],
     x: Fixpoint,
@@ -171,7 +178,8 @@ pub fn level_step(
     requires has_words { HasWords graph.now.states x looks.old }
     requires room { words_end graph.now.readers ≤ length looks.old }
     requires m_lt_n { m < graph.now.states }
-    ensures value { stepped rows.new words.new result ≡ level_step graph.now.targets graph.now.states x m look (memory rows.old words.old) }
+    ensures value { stepped rows.new words.new result
+        ≡ level_step graph.now.targets graph.now.states x m look (memory rows.old words.old) }
     ensures marked { RowsMarked graph.now.readers looks.old looks.new rows.old rows.new }
     ensures calm { result.changed ≡ false → looks.new ≡ looks.old }
     ensures levels { LevelsMarked graph.now.readers graph.now.states x looks.old looks.new words.old words.new }

@@ -1,4 +1,5 @@
-// The rules on rows applied to a memory: what they add goes where its rows lie, and its readers are to be looked at. Nothing here speaks of a table.
+// The rules on rows applied to a memory: what they add goes where its rows lie, and its readers are to be looked at.
+// Nothing here speaks of a table.
 #![tactic(auto)]
 
 mod adding;
@@ -8,8 +9,7 @@ mod graph;
 mod layout;
 mod level;
 
-pub use adding::{RowOf, add_to};
-pub use gates::{next_step, pair_step, same_step};
+pub use gates::{next_step, one_input_step, pair_step};
 pub use graph::Graph;
 pub use layout::{KEPT_PLACE, add_kept, add_node, add_step, node_row};
 pub use level::{Fixpoint, level_row, level_step};

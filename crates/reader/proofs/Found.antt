@@ -4,11 +4,10 @@ use mathlib.Core.Path.{◌≡◌, refl, sym, ap, subst, ◌∙◌}
 use mathlib.Core.Bool.{false≢true}
 use mathlib.Core.Logic.{◌↔◌, inl, inr}
 use mathlib.Core.List.{List, ◌++◌}
-use mathlib.Core.Option.{Option, none, some}
 use native.Mathlib.Decide.{dec_lt}
 use native.Mathlib.Omega.{arith}
 use lib.ListN.{length, drop}
-use Rattle.std.specs.Prelude.{Result, Ok, Err, IsOk, IfOk, IfErr}
+use Rattle.std.specs.Prelude.{Option, Some, None, Result, Ok, Err, IsOk, IfOk, IfErr}
 use Rattle.table.specs.declared.refusal.Refusal.{Refusal}
 use Rattle.table.specs.declared.refusal.Refusal.TheVariants.{SheetForm, Length, ShortBuffer}
 use Rattle.table.specs.Verdict.{Verdict}
@@ -25,10 +24,10 @@ use Rattle.table.proofs.Buffer.{front_written}
 use Rattle.sheet.specs.Form.{Sheet, InRange, IsSheet}
 use Rattle.sheet.specs.Parse.{parse}
 use Rattle.sheet.proofs.Whole.{parse_exact, sheet_parses, none_some}
-use Rattle.reader.specs.Read.{pack, packed, answer, read_verdict, ReadInto}
+use Rattle.reader.specs.Read.{pack, packed, read_result, read_verdict, ReadInto}
 use Rattle.reader.specs.Exact.{SheetOf, Readable, ReadIsExact, TextRefused, ReadRefused}
-use Rattle.reader.proofs.Packed.{pack-length, counts_pack}
-use Rattle.reader.proofs.Outcome.{not_of_form, table_refused, too_short, accepted_read}
+use Rattle.reader.proofs.PackedSheet.{pack-length, counts_pack}
+use Rattle.reader.proofs.ReadGives.{not_of_form, table_refused, too_short, accepted_read}
 
 -- 2 is for no sheet's table
 no_length : (v : Sheet) → InRange v → TableRefused (pack v) Length → ⊥
@@ -38,20 +37,20 @@ no_length v h (inr r) = r.2 (pack-length v h ∙ sym (ap packed_length (counts_p
 -- ---- what was found out
 
 data Found (text : List ℕ) : Type 0 where
-  no_sheet : parse text ≡ none → Found text
-  bad : (v : Sheet) → parse text ≡ some v → (r : Refusal) → table_verdict (pack v) ≡ Err r → Found text
-  good : (v : Sheet) → parse text ≡ some v → table_verdict (pack v) ≡ Ok tt → Found text
+  no_sheet : parse text ≡ None → Found text
+  bad : (v : Sheet) → parse text ≡ Some v → (r : Refusal) → table_verdict (pack v) ≡ Err r → Found text
+  good : (v : Sheet) → parse text ≡ Some v → table_verdict (pack v) ≡ Ok tt → Found text
 
 found : (text : List ℕ) → Found text
 found text = by_form (parse text) refl
   where
-    by_tests : (v : Sheet) → parse text ≡ some v → (w : Verdict) → table_verdict (pack v) ≡ w → Found text
+    by_tests : (v : Sheet) → parse text ≡ Some v → (w : Verdict) → table_verdict (pack v) ≡ w → Found text
     by_tests v e (Ok tt) h = good v e h
     by_tests v e (Err r) h = bad v e r h
 
     by_form : (p : Option Sheet) → parse text ≡ p → Found text
-    by_form none e = no_sheet e
-    by_form (some v) e = by_tests v e (table_verdict (pack v)) refl
+    by_form None e = no_sheet e
+    by_form (Some v) e = by_tests v e (table_verdict (pack v)) refl
 
 -- two verdicts on one thing
 one_refusal : {w : Verdict} {q r : Refusal} → w ≡ Err q → w ≡ Err r → q ≡ r
@@ -61,17 +60,17 @@ not_both : {w : Verdict} {r : Refusal} → w ≡ Ok tt → w ≡ Err r → ⊥
 not_both {r = r} p q = refused r (sym q ∙ p)
 
 -- 580 bytes are room enough
-pub room_enough : (text : List ℕ) (v : Sheet) → parse text ≡ some v → table_verdict (pack v) ≡ Ok tt
+pub room_enough : (text : List ℕ) (v : Sheet) → parse text ≡ Some v → table_verdict (pack v) ≡ Ok tt
     → read_verdict text 580 ≡ Ok tt
 room_enough text v e h = accepted_read text 580 v e h (accepted (pack v) h).short
 
 module _ (text : List ℕ) where
-  sheet_of_parsed : (v : Sheet) → parse text ≡ some v → SheetOf text (pack v)
+  sheet_of_parsed : (v : Sheet) → parse text ≡ Some v → SheetOf text (pack v)
   sheet_of_parsed v e = let f = (parse_exact text v).0 e in (v, f.0, f.1, refl)
 
   -- ---- refused with room enough
 
-  by_refusal : (v : Sheet) → parse text ≡ some v → (r : Refusal) → TableRefused (pack v) r → TextRefused text r
+  by_refusal : (v : Sheet) → parse text ≡ Some v → (r : Refusal) → TableRefused (pack v) r → TextRefused text r
   by_refusal v e SheetForm t = absurd t
   by_refusal v e Length t = absurd (no_length v ((parse_exact text v).0 e).0 t)
   by_refusal v e r t = (pack v, sheet_of_parsed v e, t)
@@ -106,10 +105,11 @@ module _ (text : List ℕ) where
 
   -- ---- accepted with room enough
 
-  pub found_good : read_verdict text 580 ≡ Ok tt → (v : Sheet) × (parse text ≡ some v) × (table_verdict (pack v) ≡ Ok tt)
+  pub found_good : read_verdict text 580 ≡ Ok tt
+      → (v : Sheet) × (parse text ≡ Some v) × (table_verdict (pack v) ≡ Ok tt)
   found_good h = go (found text)
     where
-      go : Found text → (v : Sheet) × (parse text ≡ some v) × (table_verdict (pack v) ≡ Ok tt)
+      go : Found text → (v : Sheet) × (parse text ≡ Some v) × (table_verdict (pack v) ≡ Ok tt)
       go (no_sheet e) = absurd (not_both h (not_of_form text 580 e))
       go (bad v e r t) = absurd (not_both h (table_refused text 580 v e r t))
       go (good v e t) = (v, e, t)
@@ -118,7 +118,7 @@ module _ (text : List ℕ) where
     abbrev v : Sheet
     v = (found_good h).0
 
-    abbrev form : parse text ≡ some v
+    abbrev form : parse text ≡ Some v
     form = (found_good h).1
 
     packed_is : table ≡ pack v
@@ -137,7 +137,8 @@ module _ (text : List ℕ) where
     room_refused room l = (table, the_sheet, the_table, l)
 
     pub has_room : (room : ℕ) → length table ≤ room → read_verdict text room ≡ Ok tt
-    has_room room l = accepted_read text room v form (found_good h).2 (subst (λ (t : List ℕ). length t ≤ room) packed_is l)
+    has_room room l =
+        accepted_read text room v form (found_good h).2 (subst (λ (t : List ℕ). length t ≤ room) packed_is l)
 
     pub exact : (before : List ℕ) → length table ≤ length before
         → ReadIsExact text (length table) before (table ++ drop (length table) before)
@@ -171,13 +172,13 @@ module _ (text : List ℕ) where
               | no long ↦ (pack v, sheet_of_parsed v e, (is_table (pack v)).0 t, omega (arith, long))
             ]
 
-    pub accepted_just : (w : Verdict) → read_verdict text room ≡ w → (table : List ℕ) → IsOk (answer w table)
+    pub accepted_just : (w : Verdict) → read_verdict text room ≡ w → (table : List ℕ) → IsOk (read_result w table)
         ↔ Readable text room
     accepted_just (Ok tt) h table = (λ ok. read_back h, λ r. refl)
     accepted_just (Err r) h table = (λ ok. absurd (false≢true ok), λ x. absurd (refused r (sym h ∙ readable x)))
 
 -- what the tests of a packed sheet gave, as what was read
-module _ (text : List ℕ) (v : Sheet) (e : parse text ≡ some v) (bytes : List ℕ) (same : bytes ≡ pack v) where
+module _ (text : List ℕ) (v : Sheet) (e : parse text ≡ Some v) (bytes : List ℕ) (same : bytes ≡ pack v) where
   by_tests_of : (r : Result Accepted Refusal) → AcceptedFrom (pack v) r → ReadInto text r
   by_tests_of (Ok a) f = (room_enough text v e ((is_table (pack v)).1 f.1), f.0 ∙ ap packed (sym e))
   by_tests_of (Err r) f = table_refused text 580 v e r f.0

@@ -1,7 +1,7 @@
 pub mod Stores
-pub mod Packed
+pub mod PackedSheet
 pub mod Packing
-pub mod Outcome
+pub mod ReadGives
 pub mod Found
 pub mod Sample
 pub mod Readings

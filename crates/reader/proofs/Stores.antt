@@ -33,17 +33,21 @@ module _ {A : Type 0} where
       ∙ sym (sets-eq xs l i (omega arith))
 
   -- what is stored at the front of a part is stored where the part begins
-  pub part_sets : (xs l : List A) (i k : ℕ) {after : List A} → after ≡ sets (take k (drop i l)) 0 xs → length xs ≤ k → i + k ≤ length l → put_mid i k l after ≡ sets l i xs
+  pub part_sets : (xs l : List A) (i k : ℕ) {after : List A} → after ≡ sets (take k (drop i l)) 0 xs → length xs ≤ k
+      → i + k ≤ length l → put_mid i k l after ≡ sets l i xs
   part_sets xs l i k e few h =
       let behind = drop i l in
       let part = take k behind in
       let n = length xs in
       let long : length part ≡ k = length-take-le k behind (omega (arith, length-drop i l)) in
       let whole : 0 + n ≡ n = omega arith in
-      let front : sets part 0 xs ≡ xs ++ drop n part = sets-eq xs part 0 (omega arith) ∙ ap (λ (m : ℕ). xs ++ drop m part) whole in
+      let front : sets part 0 xs ≡ xs ++ drop n part =
+      sets-eq xs part 0 (omega arith) ∙ ap (λ (m : ℕ). xs ++ drop m part) whole in
       let rest : drop n part ++ drop k behind ≡ drop (i + n) l =
-      sym (drop-append-le n part (drop k behind) (omega arith)) ∙ ap (drop n) (take-append-drop k behind) ∙ drop-drop n i l in
+      sym (drop-append-le n part (drop k behind) (omega arith)) ∙ ap (drop n) (take-append-drop k behind)
+      ∙ drop-drop n i l in
       ap (put_mid i k l) (e ∙ front)
-      ∙ ap (λ (t : List A). take i l ++ t) (append_assoc xs (drop n part) (drop k behind) ∙ ap (λ (t : List A). xs ++ t) rest)
+      ∙ ap (λ (t : List A). take i l ++ t)
+      (append_assoc xs (drop n part) (drop k behind) ∙ ap (λ (t : List A). xs ++ t) rest)
       ∙ sym (append_assoc (take i l) xs (drop (i + n) l))
       ∙ sym (sets-eq xs l i (omega arith))

@@ -25,8 +25,8 @@ pub record ReadIsExact (text : List ℕ) (k : ℕ) (before after : List ℕ) : T
   pub fits : k ≤ length before
   pub written : Written table before after
 
--- why a text gives no table, for each refusal: it is no sheet, or it is a sheet and its packed table is refused. A packed sheet is as
--- long as its counts say, so 2 is for no text
+-- why a text gives no table, for each refusal: it is no sheet, or it is a sheet and its packed table is refused. A
+-- packed sheet is as long as its counts say, so 2 is for no text
 abbrev pub TextRefused : List ℕ → Refusal → Type 0
 TextRefused text SheetForm = ¬ IsSheet text
 TextRefused text Length = ⊥

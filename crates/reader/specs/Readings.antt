@@ -2,7 +2,7 @@
 use Rattle.std.specs.Prelude.{ℕ, ◌≡◌, List, [], ◌∷◌, ◌++◌, map, replicate}
 use Prim.Native.String.{String}
 use Rattle.table.specs.Verdict.{verdict_number}
-use Rattle.sheet.specs.Form.{ascii, bytes_of}
+use Rattle.sheet.specs.Form.{ascii, concat_map}
 use Rattle.reader.specs.Read.{read_verdict}
 
 -- a sheet with this first line of values, this line for the one state, and this end
@@ -19,15 +19,15 @@ sheet counts state rest =
 abbrev pub counted_33 : ℕ → List ℕ
 counted_33 lines =
     ascii "states edges nodes props\n33 0 1 0\ninitial label\n"
-    ++ bytes_of ascii (replicate lines "1 0\n")
+    ++ concat_map ascii (replicate lines "1 0\n")
     ++ ascii "from to price\nkind a b\n1 0 0\n"
 
 -- accepted
 abbrev pub accepted : List (List ℕ)
 accepted = sheet "1 1 1 0\n" "1 0\n" "1 0 0\n" ∷ []
 
--- no text, no last newline, a byte beyond, a blank line, a leading zero, two spaces, a space at a line's end, no value, another
--- name
+-- no text, no last newline, a byte beyond, a blank line, a leading zero, two spaces, a space at a line's end, no
+-- value, another name
 abbrev pub out_of_form : List (List ℕ)
 out_of_form =
     []
@@ -54,7 +54,8 @@ numbers = map (λ text. verdict_number (read_verdict text 580))
 
 -- the block of the one step as given
 abbrev pub steps : String → List ℕ
-steps block = ascii "states edges nodes props\n1 1 1 0\ninitial label\n1 0\n" ++ ascii block ++ ascii "kind a b\n1 0 0\n"
+steps block =
+    ascii "states edges nodes props\n1 1 1 0\ninitial label\n1 0\n" ++ ascii block ++ ascii "kind a b\n1 0 0\n"
 
 -- in form, and refused as tables: 17 propositions, initial 2, a label bit without its proposition, no initial state
 abbrev pub no_tables : List (List ℕ)

@@ -2,18 +2,18 @@
 ghost use Rattle.std.specs.Prelude.{◌≡◌, ◌+◌, ◌*◌, ◌≤◌, length};
 ghost use Rattle.std.proofs.lemmas.List.Edits.{sets};
 ghost use Rattle.table.specs.Table.{packed_length, record_width};
-ghost use Rattle.sheet.specs.Form.{bytes_of, InRange};
+ghost use Rattle.sheet.specs.Form.{concat_map, InRange};
 ghost use Rattle.sheet.specs.Reading.{values, sheet_of_lines};
 ghost use Rattle.reader.specs.Read.{pack};
 
-use crate::record::{Packed, counts_bytes};
+use crate::record::{PackedRecord, counts_bytes};
 use sheet::Form;
 use table::{HEADER_WIDTH, Node, RECORD_WIDTH, State, Step};
 
 // The records of so many lines, as far as they are of the form, stored from the front on.
-fn pack_lines<R: Packed>(text: &[u8], count: usize, packed: &mut [u8])
+fn pack_lines<R: PackedRecord>(text: &[u8], count: usize, packed: &mut [u8])
     requires { record_width * count ≤ length packed.old }
-    ensures { packed.new ≡ sets packed.old 0 (bytes_of R.packed (values count R.parser text.now)) }
+    ensures { packed.new ≡ sets packed.old 0 (concat_map R.packed (values count R.parser text.now)) }
 {
     let mut rest = text;
     for j in 0..count {

@@ -8,12 +8,12 @@ use crate::pack::pack_sheet;
 use sheet::check_form;
 use table::{Accepted, Refusal, packed_length};
 
-// The length of the longest table.
+/// How many bytes the longest table has: 32 states, 128 steps and 32 nodes.
 pub const LONGEST: usize = 580;
 
-/// Reads a sheet into zero bytes that the caller lends, and tests the table there.
-// Test 1 first, over the whole text. A table longer than the longest has a count out of its range, 3. Else the values are packed,
-// and 2 to 8 are tested on the table, which is cut into its sections once.
+/// Reads a sheet into zero bytes that the caller lends, and tests the table there. The answer borrows these bytes.
+// Test 1 first, over the whole text. A table longer than the longest has a count out of its range, 3. Else the values
+// are packed, and 2 to 8 are tested on the table, which is cut into its sections once.
 pub fn read_into<'a>(text: &[u8], packed: &'a mut [u8; LONGEST]) -> Result<Accepted<'a>, Refusal>
     requires { packed.old ≡ replicate LONGEST 0 }
     ensures value { ReadInto text.now result }
@@ -32,8 +32,9 @@ pub fn read_into<'a>(text: &[u8], packed: &'a mut [u8; LONGEST]) -> Result<Accep
     Accepted::try_from(table)
 }
 
-// The reader packs into zero bytes of its own, as many as the longest table, before it writes: 10 is tested last, and only then
-// the lent buffer is written.
+/// Reads a sheet into a packed table at the front of the lent buffer, and answers how many bytes it has: at most 580.
+// The reader packs into zero bytes of its own, as many as the longest table, before it writes: 10 is tested last, and
+// only then the lent buffer is written.
 pub fn read(text: &[u8], out: &mut [u8]) -> Result<usize, Refusal>
     ensures value { result ≡ read_answer text.now out.old }
     ensures out_after { out.new ≡ read_buffer text.now out.old }

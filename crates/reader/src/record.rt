@@ -8,8 +8,9 @@ ghost use Rattle.reader.specs.Read.{pack_counts, pack_state, pack_step, pack_nod
 use sheet::Line;
 use table::{Counts, Node, State, Step};
 
-// A record that is read from a line of a sheet, and packed where its values are in their ranges, as those of a line are.
-pub trait Packed: Line {
+// A record that is read from a line of a sheet, and packed where its values are in their ranges, as those of a line
+// are.
+pub trait PackedRecord: Line {
     ghost in_range: { Self → Type 0 };
 
     ghost packed: { Self → List ℕ };
@@ -22,7 +23,7 @@ pub trait Packed: Line {
     ghost lines_in_range: { (text : List ℕ) (x : Self) (rest : List ℕ) → Self.parser text ≡ got x rest → in_range x };
 }
 
-impl Packed for State {
+impl PackedRecord for State {
     ghost in_range = { StateInRange };
 
     ghost packed = { pack_state };
@@ -38,7 +39,7 @@ impl Packed for State {
     ghost lines_in_range = { λ text x rest e. (state_exact.sound text x rest e).0 };
 }
 
-impl Packed for Step {
+impl PackedRecord for Step {
     ghost in_range = { StepInRange };
 
     ghost packed = { pack_step };
@@ -50,7 +51,7 @@ impl Packed for Step {
     ghost lines_in_range = { λ text x rest e. (step_exact.sound text x rest e).0 };
 }
 
-impl Packed for Node {
+impl PackedRecord for Node {
     ghost in_range = { NodeInRange };
 
     ghost packed = { pack_node };

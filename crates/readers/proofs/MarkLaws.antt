@@ -47,7 +47,8 @@ module _ (words : List ℕ) (k more : ℕ) (h : k < length words) where
   put_stays : (j s : ℕ) → member (get_or words j 0) s ≡ true → member (get_or with_more j 0) s ≡ true
   put_stays j s m = elim (ℕ_discrete j k) [
     | yes e ↦ subst (λ (i : ℕ). member (get_or with_more i 0) s ≡ true) (sym e)
-        (ap (λ (w : ℕ). member w s) at_k ∙ (or-true (get_or words k 0) more s).1 (inl (subst (λ (i : ℕ). member (get_or words i 0) s ≡ true) e m)))
+        (ap (λ (w : ℕ). member w s) at_k
+        ∙ (or-true (get_or words k 0) more s).1 (inl (subst (λ (i : ℕ). member (get_or words i 0) s ≡ true) e m)))
     | no d ↦ ap (λ (w : ℕ). member w s) (get_or-set_other words k j (bit_or (get_or words k 0) more) 0 d) ∙ m
   ]
 
@@ -71,10 +72,14 @@ module _ {looks looks' : List ℕ} (more : Raised looks looks') (r : Readers) wh
   steps_marked_more {s} m = record { kept = more.stays 0 s m.kept; nodes = λ i k p q. more.stays k s (m.nodes i k p q) }
 
   pub level_marked_more : {k t : ℕ} → LevelMarked r looks k t → LevelMarked r looks' k t
-  level_marked_more {k} {t} m = record { own = more.stays k t m.own; behind = λ s e. more.stays (suc k) s (m.behind s e) }
+  level_marked_more {k} {t} m = record {
+    own = more.stays k t m.own;
+    behind = λ s e. more.stays (suc k) s (m.behind s e);
+  }
 
 -- a member of y that x does not miss is one of x
-not_missed : (x y t : ℕ) → x < 2 ^ 32 → y < 2 ^ 32 → member (without y x) t ≡ false → member y t ≡ true → member x t ≡ true
+not_missed : (x y t : ℕ) → x < 2 ^ 32 → y < 2 ^ 32 → member (without y x) t ≡ false → member y t ≡ true
+    → member x t ≡ true
 not_missed x y t p q none m = go (member x t) refl
   where
     go : (b : Bool) → member x t ≡ b → member x t ≡ true
@@ -82,8 +87,10 @@ not_missed x y t p q none m = go (member x t) refl
     go false e = absurd (true≢false (sym ((without-true y x t p).1 (member_inside 32 y t q m, m, e)) ∙ none))
 
 -- outside what has grown the old row with the new one added agrees with the old row
-pub grown_agrees : (old new : Row) → SmallRow old → SmallRow new → (t : ℕ) → member (grown old new) t ≡ false → AgreeAt t old (union old new)
-grown_agrees old new p q t none sign = same_test (known (union old new) sign t) (known old sign t) (there sign) (λ m. (union-true old new sign t).1 (inl m))
+pub grown_agrees : (old new : Row) → SmallRow old → SmallRow new → (t : ℕ) → member (grown old new) t ≡ false
+    → AgreeAt t old (union old new)
+grown_agrees old new p q t none sign = same_test (known (union old new) sign t) (known old sign t) (there sign)
+    (λ m. (union-true old new sign t).1 (inl m))
   where
     missed : (member (without new.yes old.yes) t ≡ false) × (member (without new.no old.no) t ≡ false)
     missed = or_neither _ _ (sym (member-or (without new.yes old.yes) (without new.no old.no) t) ∙ none)
@@ -101,7 +108,8 @@ grown_agrees old new p q t none sign = same_test (known (union old new) sign t) 
 abbrev pub Gone : ℕ → ℕ → (ℕ → Type 0) → Type 0
 Gone all left P = (t : ℕ) → t < 32 → member all t ≡ true → member left t ≡ false → P t
 
-pub gone_next : (all left s : ℕ) (P Q : ℕ → Type 0) → ((t : ℕ) → P t → Q t) → Gone all left P → Q s → Gone all (others left s) Q
+pub gone_next : (all left s : ℕ) (P Q : ℕ → Type 0) → ((t : ℕ) → P t → Q t) → Gone all left P → Q s
+    → Gone all (others left s) Q
 gone_next all left s P Q more g here t h m e = go (eqb t s) refl
   where
     other : (b : Bool) → b && not false ≡ false → b ≡ false
@@ -111,11 +119,15 @@ gone_next all left s P Q more g here t h m e = go (eqb t s) refl
     go : (b : Bool) → eqb t s ≡ b → Q t
     go true q = subst Q (sym (eqb-true t s q)) here
     go false q = more t (g t h m (other (member left t)
-        (ap (λ (b : Bool). member left t && not b) (sym q) ∙ sym (member-set_of-below 32 (λ u. member left u && not (eqb u s)) t h) ∙ e)))
+        (ap (λ (b : Bool). member left t && not b) (sym q)
+        ∙ sym (member-set_of-below 32 (λ u. member left u && not (eqb u s)) t h) ∙ e)))
 
-pub gone_last : (all left : ℕ) (P : ℕ → Type 0) → all < 2 ^ 32 → left ≡ 0 → Gone all left P → (t : ℕ) → member all t ≡ true → P t
-gone_last all left P small none g t m = g t (member_inside 32 all t small m) m (ap (λ (w : ℕ). member w t) none ∙ member-zero t)
+pub gone_last : (all left : ℕ) (P : ℕ → Type 0) → all < 2 ^ 32 → left ≡ 0 → Gone all left P → (t : ℕ)
+    → member all t ≡ true → P t
+gone_last all left P small none g t m =
+    g t (member_inside 32 all t small m) m (ap (λ (w : ℕ). member w t) none ∙ member-zero t)
 
 -- the set of s alone has s
 pub one_has : (s : ℕ) → s < 32 → member (set_of 32 (λ t. member 0 t || eqb t s)) s ≡ true
-one_has s h = member-set_of-below 32 (λ t. member 0 t || eqb t s) s h ∙ or_right (member 0 s) (eqb s s) (eq-eqb s s refl)
+one_has s h =
+    member-set_of-below 32 (λ t. member 0 t || eqb t s) s h ∙ or_right (member 0 s) (eqb s s) (eq-eqb s s refl)

@@ -1,6 +1,6 @@
--- Where the words of the nodes lie: those of each node begin where those of the node before it end, and all of them lie before the end.
+-- Where the words of the nodes lie: those of each node begin where those of the node before it end, and all of them
+-- lie before the end.
 use Prim.Native.Nat.{ℕ, zero, suc, ◌+◌, ◌≤◌, ◌<◌, zero-le}
-use native.Mathlib.Decide.{dec_lt}
 use native.Mathlib.Omega.{arith}
 use mathlib.Core.Path.{◌≡◌, ap}
 use mathlib.Core.List.{List, [], ◌∷◌}
@@ -11,15 +11,6 @@ use Rattle.table.specs.Table.{Table, zero_node, node_at}
 use Rattle.ctl.specs.Rule.{Operator, constant, atom, negation, conjunction, disjunction, next, fixpoint, operator_of}
 use Rattle.readers.specs.Rising.{Rising}
 use Rattle.readers.specs.Readers.{row_count, row_counts, first_word, word_total, AreFirsts}
-
--- ---- places that rise
-
-pub rising_le : (first : List ℕ) → Rising first → (i j : ℕ) → i ≤ j → j ≤ 32 → get_or first i 0 ≤ get_or first j 0
-rising_le first r i zero h l = let e : i ≡ 0 = omega (arith, h) in rw e (omega arith)
-rising_le first r i (suc j) h l = elim (dec_lt i (suc j)) [
-  | yes p ↦ let before = rising_le first r i j (omega (arith, p)) (omega (arith, l)) in omega (arith, before, r.rises j (omega (arith, l)))
-  | no d ↦ let e : i ≡ suc j = omega (arith, d, h) in rw e (omega arith)
-]
 
 -- ---- the words of the first nodes
 
@@ -55,7 +46,8 @@ module _ (T : Table) where
   up i j h = omega (arith, counts_up (length T.states) T.nodes i j h)
 
   -- those of the next node begin where those of this one end
-  pub first_next : (i : ℕ) → i < length T.nodes → first_word T (suc i) ≡ first_word T i + row_count (length T.states) (operator_of (node_at T i))
+  pub first_next : (i : ℕ) → i < length T.nodes
+      → first_word T (suc i) ≡ first_word T i + row_count (length T.states) (operator_of (node_at T i))
   first_next i h = omega (arith, counts_next (length T.states) T.nodes i zero_node h)
 
   -- past the last node all lie before
@@ -63,16 +55,28 @@ module _ (T : Table) where
   first_last i h = ap (λ (xs : List Node). 1 + row_counts (length T.states) xs) (take_all i T.nodes h)
 
   -- those of a node end before those of a later one
-  pub first_before : (i j : ℕ) → i < j → j < length T.nodes → first_word T i + row_count (length T.states) (operator_of (node_at T i)) ≤ first_word T j
+  pub first_before : (i j : ℕ) → i < j → j < length T.nodes
+      → first_word T i + row_count (length T.states) (operator_of (node_at T i)) ≤ first_word T j
   first_before i j l h = omega (arith, first_next i (omega (arith, l, h)), up (suc i) j (omega (arith, l)))
 
   -- and all of them before the end
-  pub cells_in : (i : ℕ) → i < length T.nodes → first_word T i + row_count (length T.states) (operator_of (node_at T i)) ≤ word_total T
-  cells_in i h = omega (arith, first_next i h, up (suc i) (length T.nodes) (omega (arith, h)), first_last (length T.nodes) (omega arith))
+  pub cells_in : (i : ℕ) → i < length T.nodes
+      → first_word T i + row_count (length T.states) (operator_of (node_at T i)) ≤ word_total T
+  cells_in i h = omega (
+    arith,
+    first_next i h,
+    up (suc i) (length T.nodes) (omega (arith, h)),
+    first_last (length T.nodes) (omega arith),
+  )
 
   -- the places rise
   pub firsts_rise : (first : List ℕ) → AreFirsts T first → Rising first
   firsts_rise first a = record {
     starts = omega (arith, a.at 0 (omega arith));
-    rises = λ i h. omega (arith, a.at i (omega (arith, h)), a.at (suc i) (omega (arith, h)), up i (suc i) (omega arith));
+    rises = λ i h. omega (
+      arith,
+      a.at i (omega (arith, h)),
+      a.at (suc i) (omega (arith, h)),
+      up i (suc i) (omega arith),
+    );
   }

@@ -1,3 +1,4 @@
+-- What contracts between functions and proofs speak of; no promise does.
 pub mod Reads
 pub mod Rising
 pub mod Readers

@@ -1,6 +1,7 @@
--- Who reads what: at t the states with a step into t, at 32 + c the nodes with the child c, at 64 the nodes that read steps. More may stand there: then
--- more is looked at than has to be. And where the words of the states to look at lie: one for K, and behind it those of each node, one for each row of its
--- cells, which are its levels, or one row where it has none.
+-- Who reads what: at t the states with a step into t, from `NODE_READERS` on the nodes with each child, and at
+-- `STEP_READERS` the nodes that read steps. More may stand there: then more is looked at than has to be. And where
+-- the words of the states to look at lie: one for K, and behind it those of each node, one for each row of its cells,
+-- which are its levels, or one row where it has none.
 use Rattle.std.specs.Prelude.{ℕ, suc, ◌+◌, ◌≤◌, ◌<◌, ◌≡◌, true, List, [], ◌∷◌, length, get_or, take}
 use Rattle.std.specs.Int.Bits.{bit_or}
 use Rattle.sets.specs.Member.{member}
@@ -8,8 +9,10 @@ use Rattle.table.specs.Table.{Table, node_at}
 use Rattle.table.specs.declared.record.Node.{Node}
 use Rattle.table.specs.Rows.{target_set}
 use Rattle.ctl.specs.Rule.{Operator, constant, atom, negation, conjunction, disjunction, next, fixpoint, operator_of}
+use Rattle.table.specs.declared.limits.TheConstants.{MOST_NODES}
 use Rattle.rows.specs.declared.row.Row.{Row}
 use Rattle.rows.specs.Rules.{new_of}
+use Rattle.readers.specs.declared.who_reads.TheConstants.{NODE_READERS, STEP_READERS, READER_PLACES, FIRST_PLACES}
 use Rattle.readers.specs.declared.who_reads.Readers.{Readers}
 use Rattle.readers.specs.Reads.{is_child, reads_steps}
 
@@ -37,8 +40,8 @@ abbrev pub word_total : Table → ℕ
 word_total T = 1 + row_counts (length T.states) T.nodes
 
 pub record AreFirsts (T : Table) (first : List ℕ) : Type 0 where
-  pub size : length first ≡ 33
-  pub at : (i : ℕ) → i ≤ 32 → get_or first i 0 ≡ first_word T i
+  pub size : length first ≡ FIRST_PLACES
+  pub at : (i : ℕ) → i ≤ MOST_NODES → get_or first i 0 ≡ first_word T i
 
 module _ (r : Readers) where
   -- word k is one of those of node i
@@ -47,15 +50,18 @@ module _ (r : Readers) where
 
   -- where all words end
   abbrev pub words_end : ℕ
-  words_end = get_or r.first 32 0
+  words_end = get_or r.first MOST_NODES 0
 
 -- ---- who reads what
 
 pub record AreReaders (T : Table) (r : Readers) : Type 0 where
-  pub size : length r.of ≡ 65
-  pub of_state : (s t : ℕ) → s < length T.states → member (target_set T.steps s) t ≡ true → member (get_or r.of t 0) s ≡ true
-  pub of_node : (i c : ℕ) → i < length T.nodes → is_child (operator_of (node_at T i)) c ≡ true → member (get_or r.of (32 + c) 0) i ≡ true
-  pub of_steps : (i : ℕ) → i < length T.nodes → reads_steps (operator_of (node_at T i)) ≡ true → member (get_or r.of 64 0) i ≡ true
+  pub size : length r.of ≡ READER_PLACES
+  pub of_state : (s t : ℕ) → s < length T.states → member (target_set T.steps s) t ≡ true
+      → member (get_or r.of t 0) s ≡ true
+  pub of_node : (i c : ℕ) → i < length T.nodes → is_child (operator_of (node_at T i)) c ≡ true
+      → member (get_or r.of (NODE_READERS + c) 0) i ≡ true
+  pub of_steps : (i : ℕ) → i < length T.nodes → reads_steps (operator_of (node_at T i)) ≡ true
+      → member (get_or r.of STEP_READERS 0) i ≡ true
   pub firsts : AreFirsts T r.first
 
 -- the states of which the new row knows something that the old one does not

@@ -6,6 +6,6 @@ mod table_readers;
 mod who_reads;
 mod word_places;
 
-pub use marking::{KEPT_WORD, grown_at, mark_kept, mark_level, mark_node, mark_steps};
+pub use marking::{grown_at, mark_kept, mark_level, mark_node, mark_steps};
 pub use table_readers::readers_of;
-pub use who_reads::Readers;
+pub use who_reads::{KEPT_WORD, Readers};

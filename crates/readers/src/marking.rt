@@ -4,19 +4,11 @@ ghost use Rattle.sets.specs.Member.{member};
 ghost use Rattle.readers.specs.Readers.{OfNode, words_end, grown};
 ghost use Rattle.readers.specs.Marked.{Raised, NodeMarked, KeptMarked, StepsMarked, LevelMarked};
 
-use crate::who_reads::Readers;
+use crate::who_reads::{KEPT_WORD, NODE_READERS, Readers, STEP_READERS};
 use rows::{Row, new_of};
+use table::MOST_NODES;
 
-// Where the word of K lies, in front of those of the nodes.
-pub const KEPT_WORD: usize = 0;
-
-// Where the nodes that read a node stand, from node 0 on, behind the states that read each state.
-pub const NODE_READERS: usize = 32;
-
-// Where the nodes that read steps stand.
-pub const STEP_READERS: usize = 64;
-
-// The states of which a row knows something that the old one does not.
+/// The states of which a row knows something that the old one does not.
 pub fn grown_at(old: Row, new: Row) -> u32
     ensures { result ≡ grown old new }
 {
@@ -27,7 +19,8 @@ pub fn grown_at(old: Row, new: Row) -> u32
 // The states of a set, and those with a step into it.
 fn spread(readers: &Readers, set: u32) -> u32
     ensures own { (t : ℕ) → member set t ≡ true → member result t ≡ true }
-    ensures behind { (t s : ℕ) → member set t ≡ true → member (get_or readers.now.of t 0) s ≡ true → member result s ≡ true }
+    ensures behind { (t s : ℕ) → member set t ≡ true → member (get_or readers.now.of t 0) s ≡ true
+        → member result s ≡ true }
 {
     let mut all = set;
     for t in sets::members_of(set) {
@@ -36,7 +29,7 @@ fn spread(readers: &Readers, set: u32) -> u32
     all
 }
 
-// Adds states to a word.
+/// Adds states to a word.
 pub fn put(words: &mut [u32], k: usize, set: u32)
     requires { k < length words.old }
     ensures raised { Raised words.old words.new }
@@ -48,11 +41,12 @@ pub fn put(words: &mut [u32], k: usize, set: u32)
 
 // Adds states to all words of a node, and more to its first.
 fn raise_node(readers: &Readers, looks: &mut [u32], i: usize, set: u32, more: u32)
-    requires i_below { i < 32 }
+    requires i_below { i < MOST_NODES }
     requires room { words_end readers.now ≤ length looks.old }
     ensures raised { Raised looks.old looks.new }
     ensures added { (k s : ℕ) → OfNode readers.now i k → member set s ≡ true → member (get_or looks.new k 0) s ≡ true }
-    ensures first { (s : ℕ) → OfNode readers.now i (get_or readers.now.first i 0) → member more s ≡ true → member (get_or looks.new (get_or readers.now.first i 0) 0) s ≡ true }
+    ensures first { (s : ℕ) → OfNode readers.now i (get_or readers.now.first i 0) → member more s ≡ true
+        → member (get_or looks.new (get_or readers.now.first i 0) 0) s ≡ true }
 {
     let first = readers.first[i];
     let end = readers.first[i + 1];
@@ -68,17 +62,19 @@ fn raise_node(readers: &Readers, looks: &mut [u32], i: usize, set: u32, more: u3
 fn raise_nodes(readers: &Readers, looks: &mut [u32], nodes: u32, set: u32, more: u32)
     requires room { words_end readers.now ≤ length looks.old }
     ensures raised { Raised looks.old looks.new }
-    ensures added { (i k s : ℕ) → member nodes i ≡ true → OfNode readers.now i k → member set s ≡ true → member (get_or looks.new k 0) s ≡ true }
-    ensures first { (i s : ℕ) → member nodes i ≡ true → OfNode readers.now i (get_or readers.now.first i 0) → member more s ≡ true → member (get_or looks.new (get_or readers.now.first i 0) 0) s ≡ true }
+    ensures added { (i k s : ℕ) → member nodes i ≡ true → OfNode readers.now i k → member set s ≡ true
+        → member (get_or looks.new k 0) s ≡ true }
+    ensures first { (i s : ℕ) → member nodes i ≡ true → OfNode readers.now i (get_or readers.now.first i 0)
+        → member more s ≡ true → member (get_or looks.new (get_or readers.now.first i 0) 0) s ≡ true }
 {
     for i in sets::members_of(nodes) {
         raise_node(readers, looks, i, set, more);
     }
 }
 
-// The row of node c has changed at the states of a set: so has its last level.
+/// The row of node c has changed at the states of a set: so has its last level.
 pub fn mark_node(readers: &Readers, looks: &mut [u32], c: usize, set: u32)
-    requires c_below { c < 32 }
+    requires c_below { c < MOST_NODES }
     requires room { words_end readers.now ≤ length looks.old }
     ensures raised { Raised looks.old looks.new }
     ensures node_marked { (t : ℕ) → member set t ≡ true → NodeMarked readers.now looks.new c t }
@@ -90,7 +86,7 @@ pub fn mark_node(readers: &Readers, looks: &mut [u32], c: usize, set: u32)
     raise_nodes(readers, looks, nodes, set, more);
 }
 
-// The row of K has changed at the states of a set.
+/// The row of K has changed at the states of a set.
 pub fn mark_kept(readers: &Readers, looks: &mut [u32], set: u32)
     requires room { words_end readers.now ≤ length looks.old }
     ensures raised { Raised looks.old looks.new }
@@ -100,7 +96,7 @@ pub fn mark_kept(readers: &Readers, looks: &mut [u32], set: u32)
     put(looks, KEPT_WORD, more);
 }
 
-// The steps out of the states of a set have changed.
+/// The steps out of the states of a set have changed.
 pub fn mark_steps(readers: &Readers, looks: &mut [u32], set: u32)
     requires room { words_end readers.now ≤ length looks.old }
     ensures raised { Raised looks.old looks.new }
@@ -111,7 +107,8 @@ pub fn mark_steps(readers: &Readers, looks: &mut [u32], set: u32)
     raise_nodes(readers, looks, nodes, set, set);
 }
 
-// The row of a stored level has changed at the states of a set: it is looked at by its word, and the level over it by the next.
+/// The row of a stored level has changed at the states of a set: it is looked at by its word, and the level over it
+/// by the next.
 pub fn mark_level(readers: &Readers, looks: &mut [u32], k: usize, set: u32)
     requires { suc k < length looks.old }
     ensures raised { Raised looks.old looks.new }

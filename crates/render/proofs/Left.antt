@@ -7,7 +7,7 @@ use native.Mathlib.Omega.{arith}
 use lib.ListN.{length, length-append}
 use lib.Seq.{sets, length-sets}
 use Rattle.reader.proofs.Stores.{sets_append}
-use Rattle.render.specs.Render.{Room, Stored}
+use Rattle.render.specs.Stored.{HasRoom, Stored}
 
 -- of `bytes`, to be stored in `before` from `at` on, `rest` is left, to be stored in `now` from `place` on
 pub record Left (before : List ℕ) (at : ℕ) (bytes now : List ℕ) (place : ℕ) (rest : List ℕ) : Type 0 where
@@ -22,7 +22,7 @@ module _ (before : List ℕ) (at : ℕ) (bytes : List ℕ) where
 
   module _ (now : List ℕ) (place : ℕ) (part rest : List ℕ) (l : Left before at bytes now place (part ++ rest)) where
     -- the next part has room where all have
-    pub left_room : Room before at bytes → Room now place part
+    pub left_room : HasRoom before at bytes → HasRoom now place part
     left_room h =
         let a = l.size in
         let b = l.span in
@@ -30,7 +30,8 @@ module _ (before : List ℕ) (at : ℕ) (bytes : List ℕ) where
         omega arith
 
     -- the next part is stored
-    pub left_next : (after : List ℕ) (next : ℕ) → Stored now place part after next → Left before at bytes after next rest
+    pub left_next : (after : List ℕ) (next : ℕ) → Stored now place part after next
+        → Left before at bytes after next rest
     left_next after next s =
         let a = l.span in
         let b = s.place in
@@ -52,18 +53,22 @@ module _ (before : List ℕ) (at : ℕ) (bytes : List ℕ) where
       record { place = sym zero_left ∙ a; text = l.same }
 
 -- the same bytes, written otherwise
-pub left_as : (before : List ℕ) (at : ℕ) (bytes now : List ℕ) (place : ℕ) (rest other : List ℕ) → rest ≡ other → Left before at bytes now place rest → Left before at bytes now place other
+pub left_as : (before : List ℕ) (at : ℕ) (bytes now : List ℕ) (place : ℕ) (rest other : List ℕ) → rest ≡ other
+    → Left before at bytes now place rest → Left before at bytes now place other
 left_as before at bytes now place rest other e l = subst (λ (r : List ℕ). Left before at bytes now place r) e l
 
 -- stored bytes, and the room for them, when the bytes are written otherwise
-pub stored_as : (before : List ℕ) (at : ℕ) (bytes other after : List ℕ) (next : ℕ) → bytes ≡ other → Stored before at bytes after next → Stored before at other after next
+pub stored_as : (before : List ℕ) (at : ℕ) (bytes other after : List ℕ) (next : ℕ) → bytes ≡ other
+    → Stored before at bytes after next → Stored before at other after next
 stored_as before at bytes other after next e s = subst (λ (r : List ℕ). Stored before at r after next) e s
 
-pub room_as : (text : List ℕ) (at : ℕ) (bytes other : List ℕ) → bytes ≡ other → Room text at other → Room text at bytes
-room_as text at bytes other e h = subst (λ (r : List ℕ). Room text at r) (sym e) h
+pub room_as : (text : List ℕ) (at : ℕ) (bytes other : List ℕ) → bytes ≡ other → HasRoom text at other
+    → HasRoom text at bytes
+room_as text at bytes other e h = subst (λ (r : List ℕ). HasRoom text at r) (sym e) h
 
 -- bytes stored behind bytes that were stored
-pub stored_then : {before mid after xs ys : List ℕ} {at place next : ℕ} → Stored before at xs mid place → Stored mid place ys after next → Stored before at (xs ++ ys) after next
+pub stored_then : {before mid after xs ys : List ℕ} {at place next : ℕ} → Stored before at xs mid place
+    → Stored mid place ys after next → Stored before at (xs ++ ys) after next
 stored_then {before} {mid} {after} {xs} {ys} {at} s t =
     let a = s.place in
     let b = t.place in

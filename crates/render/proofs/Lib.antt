@@ -5,5 +5,5 @@ pub mod Parts
 pub mod Ranges
 pub mod Bounds
 pub mod RoundTrip
-pub mod RenderOutcome
+pub mod RenderGives
 pub mod Sample

@@ -6,18 +6,30 @@ use Rattle.table.specs.declared.accepted.Accepted.{Accepted}
 use Rattle.table.specs.Table.{records, state_of, step_of, node_of, record_width}
 use Rattle.render.specs.Render.{sheet_of}
 use mathlib.Core.List.{List, ◌++◌, append_assoc}
-use Rattle.sheet.specs.Form.{Sheet, counts_names, states_names, steps_names, nodes_names, counts_line, state_line, step_line, node_line, bytes_of, render}
+use Rattle.sheet.specs.Form.{
+  Sheet,
+  counts_names,
+  states_names,
+  steps_names,
+  nodes_names,
+  counts_line,
+  state_line,
+  step_line,
+  node_line,
+  concat_map,
+  render,
+}
 
 module _ (v : Sheet) where
   -- a block of records, and what is left of a sheet from a block on
   abbrev pub states_block : List ℕ
-  states_block = states_names ++ bytes_of state_line v.states
+  states_block = states_names ++ concat_map state_line v.states
 
   abbrev pub steps_block : List ℕ
-  steps_block = steps_names ++ bytes_of step_line v.steps
+  steps_block = steps_names ++ concat_map step_line v.steps
 
   abbrev pub nodes_block : List ℕ
-  nodes_block = nodes_names ++ bytes_of node_line v.nodes
+  nodes_block = nodes_names ++ concat_map node_line v.nodes
 
   abbrev pub from_steps : List ℕ
   from_steps = steps_block ++ nodes_block
@@ -39,23 +51,31 @@ module _ (v : Sheet) where
 -- the sheet of an accepted table, of its counts and sections
 module _ (t : Accepted) where
   abbrev states_written : List ℕ
-  states_written = states_names ++ bytes_of state_line (records state_of record_width t.counts.states t.states.now)
+  states_written = states_names ++ concat_map state_line (records state_of record_width t.counts.states t.states.now)
 
   abbrev steps_written : List ℕ
-  steps_written = steps_names ++ bytes_of step_line (records step_of record_width t.counts.steps t.steps.now)
+  steps_written = steps_names ++ concat_map step_line (records step_of record_width t.counts.steps t.steps.now)
 
   abbrev nodes_written : List ℕ
-  nodes_written = nodes_names ++ bytes_of node_line (records node_of record_width t.counts.nodes t.nodes.now)
+  nodes_written = nodes_names ++ concat_map node_line (records node_of record_width t.counts.nodes t.nodes.now)
 
-  pub accepted_parts : counts_names ++ (counts_line t.counts ++ (states_written ++ (steps_written ++ nodes_written))) ≡ render (sheet_of t.bytes.now)
+  pub accepted_parts : counts_names ++ (counts_line t.counts ++ (states_written ++ (steps_written ++ nodes_written)))
+      ≡ render (sheet_of t.bytes.now)
   accepted_parts =
-      (λ i. counts_names ++ (counts_line (t.counted i) ++ ((states_names ++ bytes_of state_line (records state_of record_width (t.counted i).states (t.states_are i))) ++ ((steps_names ++ bytes_of step_line (records step_of record_width (t.counted i).steps (t.steps_are i))) ++ (nodes_names ++ bytes_of node_line (records node_of record_width (t.counted i).nodes (t.nodes_are i)))))))
+      (λ i. counts_names
+      ++ (counts_line (t.counted i)
+      ++ ((states_names ++ concat_map state_line (records state_of record_width (t.counted i).states (t.states_are i)))
+      ++ ((steps_names ++ concat_map step_line (records step_of record_width (t.counted i).steps (t.steps_are i)))
+      ++ (nodes_names ++ concat_map node_line (records node_of record_width (t.counted i).nodes (t.nodes_are i)))))))
       ∙ sym (render_parts (sheet_of t.bytes.now))
 
-  pub accepted-length : length (render (sheet_of t.bytes.now)) ≡ length counts_names + (length (counts_line t.counts) + (length states_written + (length steps_written + length nodes_written)))
+  pub accepted-length : length (render (sheet_of t.bytes.now))
+      ≡ length counts_names
+      + (length (counts_line t.counts) + (length states_written + (length steps_written + length nodes_written)))
   accepted-length =
       sym (ap length accepted_parts)
       ∙ length-append counts_names (counts_line t.counts ++ (states_written ++ (steps_written ++ nodes_written)))
-      ∙ ap (λ (n : ℕ). length counts_names + n) (length-append (counts_line t.counts) (states_written ++ (steps_written ++ nodes_written))
+      ∙ ap (λ (n : ℕ). length counts_names + n)
+      (length-append (counts_line t.counts) (states_written ++ (steps_written ++ nodes_written))
       ∙ ap (λ (n : ℕ). length (counts_line t.counts) + n) (length-append states_written (steps_written ++ nodes_written)
       ∙ ap (λ (n : ℕ). length states_written + n) (length-append steps_written nodes_written)))

@@ -7,7 +7,7 @@ mod record;
 mod write_line;
 mod writer;
 
-pub use emit::{put_bytes, put_field};
+pub use emit::put_bytes;
 pub use laws::{samples, sheets_round_trip};
 pub use write_line::write_values;
 pub use writer::render_table;

@@ -1,13 +1,14 @@
 // A line of values, written: a space behind each but the last, and byte 10 behind that.
 ghost use Rattle.sheet.specs.Form.{line};
-ghost use Rattle.render.specs.Render.{Room, Stored};
+ghost use Rattle.render.specs.Stored.{HasRoom, Stored};
 
 use crate::emit::{put_bytes, put_field};
 use sheet::{NEWLINE, SPACE};
 
+/// Writes a line of values in decimal from a place on, and answers the place behind it.
 #[tactic(auto, unfolding(sheet::specs::Form::line))]
 pub fn write_values(text: &mut [u8], at: usize, values: &[usize]) -> usize
-    requires { Room text.old at (line values.now) }
+    requires { HasRoom text.old at (line values.now) }
     ensures { Stored text.old at (line values.now) text.new result }
 {
     match values {

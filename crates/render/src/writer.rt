@@ -1,7 +1,8 @@
 // Writing back: an accepted packed table as a sheet.
 ghost use Rattle.std.specs.Prelude.{◌≡◌, length, OnErr, IfErr, IfOk};
 ghost use Rattle.sheet.specs.Form.{render};
-ghost use Rattle.render.specs.Render.{sheet_of, Room, Stored, render_answer, render_buffer};
+ghost use Rattle.render.specs.Stored.{HasRoom, Stored};
+ghost use Rattle.render.specs.Render.{sheet_of, render_answer, render_buffer};
 ghost use Rattle.render.specs.Exact.{RenderIsExact, RenderRefused};
 
 use crate::emit::put_bytes;
@@ -10,13 +11,13 @@ use crate::write_line::write_values;
 use sheet::{COUNTS_NAMES, NODES_NAMES, STATES_NAMES, STEPS_NAMES};
 use table::{Accepted, Node, Refusal, State, Step};
 
-// No sheet of an accepted table has more bytes: so many are 32 states, 128 steps and 32 nodes with three digits a value and five a
-// label.
+// No sheet of an accepted table has more bytes: so many are 32 states, 128 steps and 32 nodes with three digits a value
+// and five a label.
 const MOST: usize = 2318;
 
 // The four blocks, one behind the other. Answers the length.
 fn write_sheet(table: &Accepted<'_>, text: &mut [u8]) -> usize
-    requires { Room text.old 0 (render (sheet_of table.now.bytes.now)) }
+    requires { HasRoom text.old 0 (render (sheet_of table.now.bytes.now)) }
     ensures { Stored text.old 0 (render (sheet_of table.now.bytes.now)) text.new result }
 {
     let c = table.counts;
@@ -27,7 +28,13 @@ fn write_sheet(table: &Accepted<'_>, text: &mut [u8]) -> usize
     write_block::<Node>(&NODES_NAMES, table.nodes, c.nodes, text, fourth)
 }
 
-// The sheet is written into bytes of the writer's own, enough for each accepted table, before the lent buffer is touched.
+/// Writes an accepted packed table as its sheet at the front of the lent buffer, and answers how many bytes it has:
+/// at most 2,318. It is the inverse of Read (`sheets_round_trip`).
+///
+/// No program of this repository calls it, since `fit` prints the lines of a list alone, and the calls for C have no
+/// such one: it is here for whoever has a packed table and wants its sheet.
+// The sheet is written into bytes of the writer's own, enough for each accepted table, before the lent buffer is
+// touched.
 pub fn render_table(table: &[u8], out: &mut [u8]) -> Result<usize, Refusal>
     ensures value { result ≡ render_answer table.now out.old }
     ensures out_after { out.new ≡ render_buffer table.now out.old }

@@ -18,7 +18,16 @@ use Rattle.table.proofs.Verdicts.{then_refused, then_next, then_accepted, requir
 use Rattle.circuit.specs.Variables.{variable_formula}
 use Rattle.search.specs.TableSearch.{search_under}
 use Rattle.search.specs.declared.answer.Answer.{Answer}
-use Rattle.repair.specs.Outcome.{repair_verdict, answer_at, written_after, cleared, repair_answer, repair_list, repair_bytes, repair_words}
+use Rattle.repair.specs.Effect.{
+  repair_verdict,
+  answer_at,
+  written_after,
+  cleared,
+  repair_answer,
+  repair_list,
+  repair_bytes,
+  repair_words,
+}
 
 module _ (table list bytes words : List ℕ) where
   pub table_refused : (r : Refusal) → table_verdict table ≡ Err r → repair_verdict table list bytes words ≡ Err r
@@ -27,24 +36,30 @@ module _ (table list bytes words : List ℕ) where
 
   -- 10, by what its three parts say
   room_tested : table_verdict table ≡ Ok tt → (a b c : Bool)
-      → leb (length (table_of table).steps) (length list) ≡ a → leb (variable_formula (table_of table)) (length bytes) ≡ b → leb (variable_formula (table_of table)) (length words) ≡ c
+      → leb (length (table_of table).steps) (length list) ≡ a
+      → leb (variable_formula (table_of table)) (length bytes) ≡ b
+      → leb (variable_formula (table_of table)) (length words) ≡ c
       → repair_verdict table list bytes words ≡ require ShortBuffer (a && b && c)
   unfolding repair_verdict
   room_tested ok a b c p q r = then_next (table_verdict table) _ ok ∙ (λ j. require ShortBuffer (p j && q j && r j))
 
   module _ (ok : table_verdict table ≡ Ok tt) where
-    pub short_list : length list < length (table_of table).steps → repair_verdict table list bytes words ≡ Err ShortBuffer
+    pub short_list : length list < length (table_of table).steps
+        → repair_verdict table list bytes words ≡ Err ShortBuffer
     short_list h = room_tested ok _ _ _ (lt-leb _ _ h) refl refl
 
     module _ (long : length (table_of table).steps ≤ length list) where
-      pub short_bytes : length bytes < variable_formula (table_of table) → repair_verdict table list bytes words ≡ Err ShortBuffer
+      pub short_bytes : length bytes < variable_formula (table_of table)
+          → repair_verdict table list bytes words ≡ Err ShortBuffer
       short_bytes h = room_tested ok _ _ _ (le-leb _ _ long) (lt-leb _ _ h) refl
 
       module _ (longer : variable_formula (table_of table) ≤ length bytes) where
-        pub short_words : length words < variable_formula (table_of table) → repair_verdict table list bytes words ≡ Err ShortBuffer
+        pub short_words : length words < variable_formula (table_of table)
+            → repair_verdict table list bytes words ≡ Err ShortBuffer
         short_words h = room_tested ok _ _ _ (le-leb _ _ long) (le-leb _ _ longer) (lt-leb _ _ h)
 
-        pub long_enough : variable_formula (table_of table) ≤ length words → repair_verdict table list bytes words ≡ Ok tt
+        pub long_enough : variable_formula (table_of table) ≤ length words
+            → repair_verdict table list bytes words ≡ Ok tt
         long_enough h = room_tested ok _ _ _ (le-leb _ _ long) (le-leb _ _ longer) (le-leb _ _ h)
 
 -- what accepting says: every test passed
@@ -65,16 +80,21 @@ module _ (table : List ℕ) (cap : ℕ) (list bytes words : List ℕ) where
   abbrev pub Left : Answer → List ℕ → List ℕ → List ℕ → Type 0
   Left answer list' bytes' words' =
       (answer ≡ repair_answer table cap list bytes words)
-      × ((list' ≡ repair_list table cap list bytes words) × ((bytes' ≡ repair_bytes table cap list bytes words) × (words' ≡ repair_words table cap list bytes words)))
+      × ((list' ≡ repair_list table cap list bytes words)
+      × ((bytes' ≡ repair_bytes table cap list bytes words) × (words' ≡ repair_words table cap list bytes words)))
 
-  -- a verdict decides all four: refused, nothing is touched; accepted, the search answers and the work buffers are cleared
+  -- a verdict decides all four: refused, nothing is touched; accepted, the search answers and the work buffers are
+  -- cleared
   pub left : (v : Verdict) → repair_verdict table list bytes words ≡ v
-      → Left (answer_at v (search_under (table_of table) cap)) (on_accepted v (written_after (table_of table) (search_under (table_of table) cap) list) list)
-      (on_accepted v (cleared (variable_formula (table_of table)) bytes) bytes) (on_accepted v (cleared (variable_formula (table_of table)) words) words)
+      → Left (answer_at v (search_under (table_of table) cap))
+      (on_accepted v (written_after (table_of table) (search_under (table_of table) cap) list) list)
+      (on_accepted v (cleared (variable_formula (table_of table)) bytes) bytes)
+      (on_accepted v (cleared (variable_formula (table_of table)) words) words)
   left v h = (
     ap (λ (w : Verdict). answer_at w (search_under (table_of table) cap)) (sym h),
     (
-      ap (λ (w : Verdict). on_accepted w (written_after (table_of table) (search_under (table_of table) cap) list) list) (sym h),
+      ap (λ (w : Verdict). on_accepted w (written_after (table_of table) (search_under (table_of table) cap) list)
+          list) (sym h),
       (
         ap (λ (w : Verdict). on_accepted w (cleared (variable_formula (table_of table)) bytes) bytes) (sym h),
         ap (λ (w : Verdict). on_accepted w (cleared (variable_formula (table_of table)) words) words) (sym h),

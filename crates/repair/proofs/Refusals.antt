@@ -39,7 +39,7 @@ use Rattle.search.specs.TableSearch.{search_under}
 use Rattle.search.specs.declared.answer.Answer.{Answer}
 use Rattle.search.specs.declared.answer.Answer.TheVariants.{Found, None, Spent, Refused}
 use Rattle.search.specs.Answer.{IfRefused}
-use Rattle.repair.specs.Outcome.{repair_verdict, buffers_fit, answer_at, cleared, repair_answer}
+use Rattle.repair.specs.Effect.{repair_verdict, buffers_fit, answer_at, cleared, repair_answer}
 use Rattle.repair.specs.Refused.{TooShort, RepairRefused}
 use Rattle.repair.specs.Right.{LongEnough}
 use Rattle.repair.proofs.Order.{table_refused, long_enough, accepted_parts, Left}

@@ -2,11 +2,10 @@
 use Prim.Native.Nat.{ℕ, ◌≤◌, ◌<◌}
 use mathlib.Core.Path.{◌≡◌, refl, sym, ap, subst, ◌∙◌}
 use mathlib.Core.List.{List, []}
-use mathlib.Core.Option.{some}
 use native.Mathlib.Omega.{arith}
 use lib.ListN.{length, take, drop}
 use lib.Seq.{take_at}
-use Rattle.std.specs.Prelude.{Ok}
+use Rattle.std.specs.Prelude.{Ok, Some}
 use Rattle.table.specs.Verdict.{Verdict}
 use Rattle.table.specs.Buffer.{on_accepted}
 use Rattle.table.specs.Table.{Table, table_of}
@@ -22,7 +21,7 @@ use Rattle.ctl.specs.Rank.{Cheapest}
 use Rattle.ctl.specs.Tests.{judge_verdict}
 use Rattle.ctl.proofs.Repair.{judge_accepts_repairs}
 use Rattle.ctl.proofs.Strike.{strike-length, strike-is_exact, striking_narrows, senses_agree}
-use Rattle.closure.specs.Closure.{Marks}
+use Rattle.closure.specs.Computed.{Marks}
 use Rattle.closure.specs.Settled.{SettledCount}
 use Rattle.search.specs.declared.answer.Answer.{Answer}
 use Rattle.search.specs.Answer.{answer_of}
@@ -31,7 +30,7 @@ use Rattle.search.specs.TableSearch.{search_under, search_free, list_of}
 use Rattle.search.specs.Right.{choices, settled, SearchIsRight}
 use Rattle.search.proofs.Right.{search_is_right}
 use Rattle.search.proofs.UnderCap.{under_cap, same_settled}
-use Rattle.repair.specs.Outcome.{written_after, answer_at, repair_answer}
+use Rattle.repair.specs.Effect.{written_after, answer_at, repair_answer}
 use Rattle.repair.specs.Right.{LongEnough, FoundList, RepairIsRight, EveryRepairIsRight}
 use Rattle.repair.proofs.Order.{Left}
 use Rattle.repair.proofs.Refusals.{fits}
@@ -116,7 +115,7 @@ module _ (table : List ℕ) (cap : ℕ) (ok : table_verdict table ≡ Ok tt) whe
       found = λ h. (λ f. (list_of T m, repair m p c k e list), λ r. tt);
       cheapest = listed m p c k e list;
       judged = judged m p c k e list;
-      counted = ap (λ (o : Outcome). some (choices o)) (sym e);
+      counted = ap (λ (o : Outcome). Some (choices o)) (sym e);
       settled = (k, refl, carried (found m p c k) e);
       no_price = λ n. absurd (n tt);
       list_stays = λ n. absurd (n tt);
@@ -132,7 +131,7 @@ module _ (table : List ℕ) (cap : ℕ) (ok : table_verdict table ≡ Ok tt) whe
       found = λ h. (λ f. absurd f, λ r. absurd (none_right r.0 r.1));
       cheapest = tt;
       judged = tt;
-      counted = ap (λ (o : Outcome). some (choices o)) (sym e);
+      counted = ap (λ (o : Outcome). Some (choices o)) (sym e);
       settled = (k, refl, carried (none c k) e);
       no_price = λ n. refl;
       list_stays = λ n. refl;
@@ -148,7 +147,7 @@ module _ (table : List ℕ) (cap : ℕ) (ok : table_verdict table ≡ Ok tt) whe
       found = λ h. absurd (omega (arith, h, spent_over c k e));
       cheapest = tt;
       judged = tt;
-      counted = ap (λ (o : Outcome). some (choices o)) (sym e);
+      counted = ap (λ (o : Outcome). Some (choices o)) (sym e);
       settled = (k, refl, carried (spent c k) e);
       no_price = λ n. refl;
       list_stays = λ n. refl;

@@ -17,7 +17,8 @@ pub record StruckBefore (T : Table) (list : List ℕ) (j : ℕ) (now : List ℕ)
   pub before : (i : ℕ) → i < j → get_or now i 0 ≡ get_or (strike T list) i 0
   pub behind : (i : ℕ) → j ≤ i → get_or now i 0 ≡ get_or list i 0
 
-module _ (T : Table) (list : List ℕ) (j : ℕ) (now : List ℕ) (b : StruckBefore T list j now) (inside : j < length T.steps) where
+module _ (T : Table) (list : List ℕ) (j : ℕ) (now : List ℕ) (b : StruckBefore T list j now)
+    (inside : j < length T.steps) where
   at_j : (x : Bool) → is_reached T list (step_at T j).from ≡ x → get_or (strike T list) j 0 ≡ cond x (get_or list j 0) 0
   at_j x e = strike_at T list j inside ∙ ap (λ (y : Bool). cond y (get_or list j 0) 0) e
 
@@ -25,12 +26,14 @@ module _ (T : Table) (list : List ℕ) (j : ℕ) (now : List ℕ) (b : StruckBef
   pub struck_not : is_reached T list (step_at T j).from ≡ true → StruckBefore T list (j + 1) now
   struck_not e = record {
     size = b.size;
-    before = below_more (λ i. get_or now i 0 ≡ get_or (strike T list) i 0) j b.before (b.behind j (omega arith) ∙ sym (at_j true e));
+    before = below_more (λ i. get_or now i 0 ≡ get_or (strike T list) i 0) j b.before
+        (b.behind j (omega arith) ∙ sym (at_j true e));
     behind = λ i h. b.behind i (omega arith);
   }
 
   -- it leaves another state
-  pub struck_at : is_reached T list (step_at T j).from ≡ false → j < length list → StruckBefore T list (j + 1) (set now j 0)
+  pub struck_at : is_reached T list (step_at T j).from ≡ false → j < length list
+      → StruckBefore T list (j + 1) (set now j 0)
   struck_at e h = record {
     size = length-set now j 0 ∙ b.size;
     before = below_more (λ i. get_or (set now j 0) i 0 ≡ get_or (strike T list) i 0) j
@@ -39,6 +42,8 @@ module _ (T : Table) (list : List ℕ) (j : ℕ) (now : List ℕ) (b : StruckBef
     behind = λ i l. get_or-set_other now j i 0 0 (λ q. absurd (omega (arith, q))) ∙ b.behind i (omega arith);
   }
 
-pub struck_all : (T : Table) (list : List ℕ) (j : ℕ) (now : List ℕ) → StruckBefore T list j now → length list ≡ length T.steps → length list ≤ j → now ≡ strike T list
+pub struck_all : (T : Table) (list : List ℕ) (j : ℕ) (now : List ℕ) → StruckBefore T list j now
+    → length list ≡ length T.steps → length list ≤ j → now ≡ strike T list
 struck_all T list j now b size done =
-    ext_get_or 0 now (strike T list) (b.size ∙ size ∙ sym (strike-length T list)) (λ i h. b.before i (omega (arith, b.size)))
+    ext_get_or 0 now (strike T list) (b.size ∙ size ∙ sym (strike-length T list))
+    (λ i h. b.before i (omega (arith, b.size)))

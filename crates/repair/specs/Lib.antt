@@ -1,4 +1,7 @@
-pub mod Round
-pub mod Outcome
-pub mod Refused
+-- What is promised.
 pub mod Right
+pub mod Refused
+-- What computes; a law or a clause says that it agrees with what is to be believed.
+pub mod Effect
+-- What contracts between functions and proofs speak of; no promise does.
+pub mod Round

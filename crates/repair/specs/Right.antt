@@ -1,6 +1,5 @@
 -- What Repair promises of a table that passes its tests, with buffers that are long enough.
-use Rattle.std.specs.Prelude.{ℕ, ◌≤◌, ◌<◌, ◌≡◌, ◌↔◌, List, [], length, take, get_or, Ok}
-use Rattle.std.proofs.Math.Option.{some}
+use Rattle.std.specs.Prelude.{ℕ, ◌≤◌, ◌<◌, ◌≡◌, ◌↔◌, List, [], length, take, get_or, Ok, Some}
 use Rattle.table.specs.Table.{Table, table_of}
 use Rattle.table.specs.Facts.{IsTable}
 use Rattle.ctl.specs.Kept.{Struck, Repair, NarrowRepair}
@@ -13,7 +12,7 @@ use Rattle.search.specs.TableSearch.{search_under, search_free}
 use Rattle.search.specs.Right.{choices}
 use Rattle.search.specs.declared.answer.Answer.{Answer}
 use Rattle.search.specs.Answer.{IsFound, IsNone, IsSpent, IfFound, answer_choices, answer_price, answer_settled}
-use Rattle.repair.specs.Outcome.{repair_answer, repair_list}
+use Rattle.repair.specs.Effect.{repair_answer, repair_list}
 
 -- The bytes are a table, and the buffers are long enough: the list has a byte for each step, and either work buffer an
 -- entry for each variable of the table's circuit.
@@ -55,11 +54,11 @@ pub record RepairIsRight (table : List ℕ) (cap : ℕ) (answer : Answer) (befor
   -- and the judge accepts them
   pub judged : IfFound answer (λ price. judge_verdict table (take (length (table_of table).steps) after) ≡ Ok tt)
   -- found, none and spent carry how many choices the search makes under the cap
-  pub counted : answer_choices answer ≡ some (choices (search_under (table_of table) cap))
+  pub counted : answer_choices answer ≡ Some (choices (search_under (table_of table) cap))
   -- and of how many steps the closure of nothing holds a literal, or 0 where that closure fails
-  pub settled : (k : ℕ) × (answer_settled answer ≡ some k) × SettledCount (table_of table) [] k
+  pub settled : (k : ℕ) × (answer_settled answer ≡ Some k) × SettledCount (table_of table) [] k
   -- none and spent have the price 0
-  pub no_price : (¬ IsFound answer) → answer_price answer ≡ some 0
+  pub no_price : (¬ IsFound answer) → answer_price answer ≡ Some 0
   -- and leave the list as it was
   pub list_stays : (¬ IsFound answer) → after ≡ before
   -- what the list has behind the bytes of the steps stays in any case

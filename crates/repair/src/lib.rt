@@ -11,7 +11,7 @@ ghost use Rattle.table.specs.Buffer.{Written};
 ghost use Rattle.table.specs.Table.{table_of};
 ghost use Rattle.circuit.specs.Variables.{variable_formula};
 ghost use Rattle.search.specs.Answer.{IfRefused};
-ghost use Rattle.repair.specs.Outcome.{repair_answer, repair_list, repair_bytes, repair_words};
+ghost use Rattle.repair.specs.Effect.{repair_answer, repair_list, repair_bytes, repair_words};
 ghost use Rattle.repair.specs.Refused.{RepairRefused};
 ghost use Rattle.repair.specs.Right.{LongEnough, RepairIsRight};
 

@@ -10,8 +10,8 @@ ghost use Rattle.repair.specs.Round.{Round};
 use events::Net;
 use table::Accepted;
 
-// That the list has a byte for each step is asked, here and of `strike_unreached`: a struct of table and list would be no plainer, since each clause would
-// take both out of it again.
+// That the list has a byte for each step is asked, here and of `strike_unreached`: a struct of table and list would
+// be no plainer, since each clause would take both out of it again.
 
 // The states that a kept step leaves.
 fn kept_states(table: &Accepted<'_>, list: &[u8]) -> u32
@@ -43,7 +43,7 @@ fn add_ends(table: &Accepted<'_>, list: &[u8], set: u32) -> u32
     next
 }
 
-// From the kept initial states. A round that adds nothing is the last that is needed.
+/// From the kept initial states. A round that adds nothing is the last that is needed.
 pub fn reached_states(net: &Net<'_>, list: &[u8]) -> u32
     requires { length list.now ≡ length (table_in net.now).steps }
     ensures { result ≡ set_of 32 (is_reached (table_in net.now) list.now) }

@@ -4,13 +4,13 @@ ghost use Rattle.events.specs.NetTable.{table_in};
 ghost use Rattle.search.specs.TableSearch.{search_under};
 ghost use Rattle.search.specs.Answer.{answer_of};
 ghost use Rattle.walk.specs.KeptWords.{room_total};
-ghost use Rattle.repair.specs.Outcome.{written_after};
+ghost use Rattle.repair.specs.Effect.{written_after};
 
 use crate::strike::strike_unreached;
 use events::Net;
 use search::Answer;
 
-// What is found is struck where it lies; none and spent leave the list.
+/// What is found is struck where it lies; none and spent leave the list.
 pub fn run(net: &Net<'_>, cap: u64, list: &mut [u8], words: &mut [u32]) -> Answer
     requires list_room { length (table_in net.now).steps ≤ length list.old }
     requires words_room { room_total (table_in net.now) ≤ length words.old }

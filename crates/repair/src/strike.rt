@@ -6,7 +6,7 @@ ghost use Rattle.events.specs.NetTable.{table_in};
 use crate::reached::reached_states;
 use events::Net;
 
-// Strikes every step out of a state that the list does not reach.
+/// Strikes every step out of a state that the list does not reach.
 pub fn strike_unreached(net: &Net<'_>, list: &mut [u8])
     requires { length list.old ≡ length (table_in net.now).steps }
     ensures { list.new ≡ strike (table_in net.now) list.old }

@@ -13,7 +13,7 @@ use Rattle.sheet.specs.Parse.{parse}
 use Rattle.sheet.proofs.Whole.{parse_exact}
 use Rattle.reader.specs.Read.{packed, read_verdict}
 use Rattle.reader.proofs.Found.{found_good}
-use Rattle.reader.proofs.Packed.{table_pack}
+use Rattle.reader.proofs.PackedSheet.{table_pack}
 
 step_prices : (steps : List Step) → Every StepInRange steps → (j : ℕ) → (get_or steps j zero_step).price ≤ 255
 step_prices [] h j = omega arith

@@ -26,9 +26,15 @@ module _ (T : Table) (wf : Wellformed T) (cap : ℕ) where
   module _ (bytes : (j : ℕ) → (step_at T j).price ≤ 255) where
     free_price : (o : Outcome) → search_free T ≡ o → price o ≤ 32640
     free_price (found m p c k) e =
-        omega (arith, ((search_is_right T wf).found_cheapest m p c k e).1, price_most T (λ j. eqb (get_or (list_of T m) j 0) 0) 255 bytes, wf.few_steps)
+        omega (
+          arith,
+          ((search_is_right T wf).found_cheapest m p c k e).1,
+          price_most T (λ j. eqb (get_or (list_of T m) j 0) 0) 255 bytes,
+          wf.few_steps,
+        )
     free_price (none c k) e = omega arith
     free_price (spent c k) e = omega arith
 
     pub price_few : price (search_under T cap) ≤ 32640
-    price_few = under_cap T wf cap (λ o. price o ≤ 32640) (λ over. omega arith) (λ within. free_price (search_free T) refl)
+    price_few =
+        under_cap T wf cap (λ o. price o ≤ 32640) (λ over. omega arith) (λ within. free_price (search_free T) refl)

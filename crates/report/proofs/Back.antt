@@ -26,8 +26,18 @@ use Rattle.table.specs.declared.refusal.Refusal.TheVariants.{
   UnreachedStep,
 }
 use Rattle.table.specs.Verdict.{Verdict, require, ◌then◌}
-use Rattle.table.specs.Table.{Table, table_of, counts_of, packed_length, header_width}
-use Rattle.table.specs.Accept.{all, any, distinct, counts_fit, state_fits, is_initial, step_fits, nodes_fit, records_verdict, table_verdict}
+use Rattle.table.specs.Table.{Table, table_of, counts_of, packed_length, header_width, is_initial}
+use Rattle.table.specs.Accept.{
+  all,
+  any,
+  distinct,
+  counts_fit,
+  state_fits,
+  step_fits,
+  nodes_fit,
+  records_verdict,
+  table_verdict,
+}
 use Rattle.table.specs.Refused.{RightLength, StatesFit, SomeInitial, TableRefused}
 use Rattle.table.proofs.Bools.{not_so}
 use Rattle.table.proofs.Verdicts.{then_assoc}

@@ -10,14 +10,14 @@ use Rattle.table.specs.Verdict.{Verdict}
 use Rattle.std.specs.Prelude.{Ok, Err}
 use Rattle.table.specs.Buffer.{on_accepted}
 use Rattle.table.specs.Table.{Table, step_at}
-use Rattle.ctl.specs.Levels.{below}
+use Rattle.ctl.specs.Range.{below}
 use Rattle.ctl.specs.Reached.{is_reached, strike}
 use Rattle.ctl.proofs.Strike.{strike-length, strike_at, bit_or_0}
-use Rattle.closure.specs.Closure.{Marks, mark_at}
+use Rattle.closure.specs.Computed.{Marks, mark_at}
 use Rattle.search.specs.Search.{Outcome, found, none, spent}
 use Rattle.search.specs.TableSearch.{bit_of, list_of}
 use Rattle.search.proofs.Agree.{bit_le}
-use Rattle.repair.specs.Outcome.{written_after}
+use Rattle.repair.specs.Effect.{written_after}
 use Rattle.report.specs.Report.{zeros}
 
 abbrev pub Bits : List ℕ → Type 0
@@ -51,10 +51,12 @@ bits_strike T list h i = go (dec_lt i (length T.steps))
 -- what is written where the search found, and what Repair leaves
 outcome_bits : (T : Table) (o : Outcome) (list : List ℕ) → Bits list → Bits (written_after T o list)
 outcome_bits T (found m p c k) list h =
-    bits_append (strike T (list_of T m)) (drop (length T.steps) list) (bits_strike T (list_of T m) (bits_map m (below (length T.steps)))) (bits_drop (length T.steps) list h)
+    bits_append (strike T (list_of T m)) (drop (length T.steps) list)
+    (bits_strike T (list_of T m) (bits_map m (below (length T.steps)))) (bits_drop (length T.steps) list h)
 outcome_bits T (none c k) list h = h
 outcome_bits T (spent c k) list h = h
 
-pub list_bits : (v : Verdict) (T : Table) (o : Outcome) (list : List ℕ) → Bits list → Bits (on_accepted v (written_after T o list) list)
+pub list_bits : (v : Verdict) (T : Table) (o : Outcome) (list : List ℕ) → Bits list
+    → Bits (on_accepted v (written_after T o list) list)
 list_bits (Ok tt) T o list h = outcome_bits T o list h
 list_bits (Err r) T o list h = h

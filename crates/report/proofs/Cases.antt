@@ -15,8 +15,9 @@ use Rattle.table.specs.declared.refusal.Refusal.{Refusal}
 use Rattle.table.specs.Verdict.{Verdict}
 use Rattle.sheet.specs.Parse.{parse}
 use Rattle.reader.specs.Read.{packed, read_verdict, ReadInto}
-use Rattle.render.specs.Render.{Room, Stored}
-use Rattle.report.specs.Report.{refused, table_text, verdict_text, limited, text_under, cap, fit_text}
+use Rattle.render.specs.Stored.{HasRoom, Stored}
+use Rattle.report.specs.Texts.{refused, cap}
+use Rattle.report.specs.Report.{table_text, verdict_text, limited, text_under, fit_text}
 use Rattle.report.proofs.Fits.{text_length}
 
 -- what is printed of a table that was read, or of why it was not
@@ -48,11 +49,12 @@ module _ (text : List ℕ) where
     text_is {r} read e = ap into_text (sym e) ∙ sym (text_into r read)
 
   -- there is room for all that is printed
-  pub text_room : (out : List ℕ) → 2048 ≤ length out → Room out 0 (fit_text text)
+  pub text_room : (out : List ℕ) → 2048 ≤ length out → HasRoom out 0 (fit_text text)
   text_room out h = omega (arith, text_length text)
 
 -- the bytes stand at the front, and the rest is as it was
-pub stored_front : (before bytes after : List ℕ) (next : ℕ) → Room before 0 bytes → Stored before 0 bytes after next → (next ≡ length bytes) × (after ≡ bytes ++ drop (length bytes) before)
+pub stored_front : (before bytes after : List ℕ) (next : ℕ) → HasRoom before 0 bytes → Stored before 0 bytes after next
+    → (next ≡ length bytes) × (after ≡ bytes ++ drop (length bytes) before)
 stored_front before bytes after next room s = (
   s.place ∙ zero-add (length bytes),
   s.text ∙ sets-eq bytes before 0 room ∙ ap (λ (k : ℕ). bytes ++ drop k before) (zero-add (length bytes)),

@@ -25,20 +25,9 @@ use Rattle.sheet.specs.Form.{ascii, decimal, ended, line}
 use Rattle.reader.specs.Read.{packed, read_verdict}
 use Rattle.render.proofs.Number.{low_length}
 use Rattle.render.proofs.Bounds.{more_digits, ended-length}
-use Rattle.repair.specs.Outcome.{repair_verdict, answer_at, repair_list}
-use Rattle.report.specs.Report.{
-  refused,
-  kept_line,
-  kept_lines,
-  answer_text,
-  zeros,
-  cap,
-  table_text,
-  verdict_text,
-  limited,
-  text_under,
-  fit_text,
-}
+use Rattle.repair.specs.Effect.{repair_verdict, answer_at, repair_list}
+use Rattle.report.specs.Texts.{refused, kept_line, kept_lines, cap}
+use Rattle.report.specs.Report.{answer_text, zeros, table_text, verdict_text, limited, text_under, fit_text}
 use Rattle.report.proofs.Accepted.{read_accepted, read_prices}
 use Rattle.report.proofs.Bits.{Bits, bits_zeros, list_bits}
 use Rattle.report.proofs.AtMost.{price, choices_few, price_few}
@@ -62,25 +51,46 @@ two_values : (a b : ℕ) → length (line (a ∷ b ∷ [])) ≡ length (decimal 
 unfolding line
 two_values a b = omega (arith, length-append (ended 32 a) (ended 10 b), ended-length 32 a, ended-length 10 b)
 
-three_values : (a b c : ℕ) → length (line (a ∷ b ∷ c ∷ [])) ≡ length (decimal a) + length (decimal b) + length (decimal c) + 3
+three_values : (a b c : ℕ)
+    → length (line (a ∷ b ∷ c ∷ [])) ≡ length (decimal a) + length (decimal b) + length (decimal c) + 3
 unfolding line
 three_values a b c =
-    omega (arith, length-append (ended 32 a) (ended 32 b ++ ended 10 c), length-append (ended 32 b) (ended 10 c), ended-length 32 a, ended-length 32 b, ended-length 10 c)
+    omega (
+      arith,
+      length-append (ended 32 a) (ended 32 b ++ ended 10 c),
+      length-append (ended 32 b) (ended 10 c),
+      ended-length 32 a,
+      ended-length 32 b,
+      ended-length 10 c,
+    )
 
 -- ---- the lines of the steps
 
 kept_length : (x : Step) (n kept : ℕ) → n ≤ 32 → step_fits n x ≡ true → kept ≤ 1 → length (kept_line x kept) ≤ 8
 kept_length x n kept h fits bit =
     let w = step_within n x fits in
-    omega (arith, three_values x.from x.to kept, two_digits x.from (omega (arith, w.0)), two_digits x.to (omega (arith, w.1)), low_length kept (omega arith))
+    omega (
+      arith,
+      three_values x.from x.to kept,
+      two_digits x.from (omega (arith, w.0)),
+      two_digits x.to (omega (arith, w.1)),
+      low_length kept (omega arith),
+    )
 
-lines_length : (n : ℕ) → n ≤ 32 → (steps : List Step) (list : List ℕ) → all (step_fits n) steps ≡ true → Bits list → length (kept_lines steps list) ≤ 8 * length steps
+lines_length : (n : ℕ) → n ≤ 32 → (steps : List Step) (list : List ℕ) → all (step_fits n) steps ≡ true → Bits list
+    → length (kept_lines steps list) ≤ 8 * length steps
 unfolding kept_lines all
 lines_length n h [] list fit bits = omega arith
 lines_length n h (x ∷ steps) [] fit bits = omega arith
 lines_length n h (x ∷ steps) (kept ∷ list) fit bits =
     let f = and_parts (step_fits n x) (all (step_fits n) steps) fit in
-    omega (arith, length-append (kept_line x kept) (kept_lines steps list), kept_length x n kept h f.0 (bits 0), lines_length n h steps list f.1 (λ i. bits (suc i)), mul-suc 8 (length steps))
+    omega (
+      arith,
+      length-append (kept_line x kept) (kept_lines steps list),
+      kept_length x n kept h f.0 (bits 0),
+      lines_length n h steps list f.1 (λ i. bits (suc i)),
+      mul-suc 8 (length steps),
+    )
 
 -- ---- Repair's answer
 
@@ -101,18 +111,25 @@ refusal_few refusal.RootFails = omega arith
 refusal_few refusal.UnreachedStep = omega arith
 
 pub refused-length : (r : Refusal) → length (refused r) ≤ 1078
-refused-length r = omega (arith, one_value (refusal_number r), two_digits (refusal_number r) (omega (arith, refusal_few r)))
+refused-length r =
+    omega (arith, one_value (refusal_number r), two_digits (refusal_number r) (omega (arith, refusal_few r)))
 
 values_length : (c p : ℕ) → c ≤ cap → p ≤ 32640 → length (line (c ∷ p ∷ [])) ≤ 14
 values_length c p few cheap = omega (arith, two_values c p, seven_digits c few, five_digits p (omega arith))
 
-outcome_length : (table : List ℕ) (o : Outcome) (list : List ℕ) → choices o ≤ cap → price o ≤ 32640 → length (kept_lines (steps_of table) list) ≤ 1024 → length (answer_text table (answer_of o) list) ≤ 1078
+outcome_length : (table : List ℕ) (o : Outcome) (list : List ℕ) → choices o ≤ cap → price o ≤ 32640
+    → length (kept_lines (steps_of table) list) ≤ 1024 → length (answer_text table (answer_of o) list) ≤ 1078
 outcome_length table (found m p c k) list few cheap short =
-    omega (arith, length-append (line (c ∷ p ∷ [])) (ascii "from to kept\n" ++ kept_lines (steps_of table) list), values_length c p few cheap)
+    omega (
+      arith,
+      length-append (line (c ∷ p ∷ [])) (ascii "from to kept\n" ++ kept_lines (steps_of table) list),
+      values_length c p few cheap,
+    )
 outcome_length table (none c k) list few cheap short = omega (arith, values_length c 0 few cheap)
 outcome_length table (spent c k) list few cheap short = omega (arith, values_length c 0 few cheap)
 
-answer-length : (table : List ℕ) (v : Verdict) (o : Outcome) (list : List ℕ) → choices o ≤ cap → price o ≤ 32640 → length (kept_lines (steps_of table) list) ≤ 1024 → length (answer_text table (answer_at v o) list) ≤ 1078
+answer-length : (table : List ℕ) (v : Verdict) (o : Outcome) (list : List ℕ) → choices o ≤ cap → price o ≤ 32640
+    → length (kept_lines (steps_of table) list) ≤ 1024 → length (answer_text table (answer_at v o) list) ≤ 1078
 answer-length table (Ok tt) o list few cheap short = outcome_length table o list few cheap short
 answer-length table (Err r) o list few cheap short = refused-length r
 
@@ -127,7 +144,8 @@ table_length table ok bytes =
     let list = repair_list table cap (zeros 128) (zeros 10000) (zeros 10000) in
     let fit = (records_accepted T (header_accepted table ok).2).2 in
     let few = p.few_steps in
-    let lines = lines_length (length T.states) p.few_states T.steps list fit (list_bits v T o (zeros 128) (bits_zeros 128)) in
+    let lines = lines_length (length T.states) p.few_states T.steps list fit
+    (list_bits v T o (zeros 128) (bits_zeros 128)) in
     answer-length table v o list (choices_few T p cap) (price_few T p cap bytes) (omega arith)
 
 -- ---- the whole

@@ -8,5 +8,5 @@ pub mod Back
 pub mod Says
 pub mod Printed
 pub mod ListPrinted
-pub mod Written
+pub mod RunSays
 pub mod SampleTexts

@@ -15,7 +15,8 @@ use Rattle.sheet.proofs.Whole.{render_injective}
 use Rattle.reader.specs.Read.{pack}
 use Rattle.reader.specs.Exact.{SheetOf}
 use Rattle.repair.specs.Right.{FoundList}
-use Rattle.report.specs.Report.{kept_line, kept_lines, found_text, cap, fit_text}
+use Rattle.report.specs.Texts.{kept_line, kept_lines, found_text, cap}
+use Rattle.report.specs.Report.{fit_text}
 use Rattle.report.specs.Exact.{FitTable, TableSays, FitSays, ListSays}
 use Rattle.report.proofs.Says.{fit_says}
 use Rattle.report.proofs.Printed.{differ}
@@ -50,7 +51,8 @@ step_same x k m r s e =
     ∙ e
     ∙ append_assoc (ended space x.from) (ended space x.to ++ ended newline m) s) in
     let last = append_cancel_left (ended space x.to) _ _
-    (sym (append_assoc (ended space x.to) (ended newline k) r) ∙ behind ∙ append_assoc (ended space x.to) (ended newline m) s) in
+    (sym (append_assoc (ended space x.to) (ended newline k) r) ∙ behind
+    ∙ append_assoc (ended space x.to) (ended newline m) s) in
     field_same newline (omega arith) k m r s last
 
 -- the lines of the steps

@@ -4,12 +4,11 @@ use mathlib.Core.Path.{◌≡◌, refl, sym, ap, subst, ◌∙◌}
 use mathlib.Core.Logic.{inl, inr}
 use mathlib.Core.Bool.{cond}
 use mathlib.Core.List.{List, ◌++◌}
-use mathlib.Core.Option.{Option, none, some}
 use native.Mathlib.Decide.{dec_lt}
 use native.Mathlib.Omega.{arith}
 use lib.Dec.{eqb}
 use lib.ListN.{length, get_or}
-use Rattle.std.specs.Prelude.{Ok, Err}
+use Rattle.std.specs.Prelude.{Option, Some, None, Ok, Err}
 use Rattle.table.specs.declared.refusal.Refusal.{Refusal}
 use Rattle.table.specs.declared.refusal.Refusal.TheVariants.{
   SheetForm,
@@ -39,9 +38,10 @@ use Rattle.sheet.specs.Parse.{parse}
 use Rattle.sheet.proofs.Whole.{parse_exact, sheet_parses}
 use Rattle.reader.specs.Read.{pack, packed}
 use Rattle.reader.specs.Exact.{SheetOf}
-use Rattle.reader.proofs.Outcome.{not_of_form, table_refused}
+use Rattle.reader.proofs.ReadGives.{not_of_form, table_refused}
 use Rattle.reader.proofs.Found.{room_enough}
-use Rattle.report.specs.Report.{refused, table_text, cap, fit_text}
+use Rattle.report.specs.Texts.{refused, cap}
+use Rattle.report.specs.Report.{table_text, fit_text}
 use Rattle.report.specs.Exact.{FitTable, FitRefused, TableSays, FitSays, NoneSays, RefusedSays}
 use Rattle.report.proofs.Cases.{too_long, text_read}
 use Rattle.report.proofs.Back.{refused_back}
@@ -97,8 +97,10 @@ differ xs ys at x y p q n e = absurd (n (sym p ∙ ap (λ (l : List ℕ). get_or
 not_refused : {A : Type 0} (most : ℕ) (table printed : List ℕ) (r : Refusal)
     → TableSays most table printed → printed ≡ refused r → A
 not_refused most table printed r (inl of_none) e = differ _ _ 7 99 110 refl refl (omega arith) (sym of_none.text ∙ e)
-not_refused most table printed r (inr (inl of_spent)) e = differ _ _ 7 99 110 refl refl (omega arith) (sym of_spent.text ∙ e)
-not_refused most table printed r (inr (inr of_found)) e = differ _ _ 7 99 110 refl refl (omega arith) (sym of_found.text ∙ e)
+not_refused most table printed r (inr (inl of_spent)) e =
+    differ _ _ 7 99 110 refl refl (omega arith) (sym of_spent.text ∙ e)
+not_refused most table printed r (inr (inr of_found)) e =
+    differ _ _ 7 99 110 refl refl (omega arith) (sym of_found.text ∙ e)
 
 -- ---- none
 
@@ -106,8 +108,10 @@ no_repair : (most : ℕ) (table printed rest : List ℕ)
     → TableSays most table printed → printed ≡ ascii "answer choices price\n" ++ (ascii "none " ++ rest)
     → (list : List ℕ) → ¬ Repair (table_of table) list
 no_repair most table printed rest (inl of_none) e = of_none.no_repair
-no_repair most table printed rest (inr (inl of_spent)) e = differ _ _ 21 115 110 refl refl (omega arith) (sym of_spent.text ∙ e)
-no_repair most table printed rest (inr (inr of_found)) e = differ _ _ 21 102 110 refl refl (omega arith) (sym of_found.text ∙ e)
+no_repair most table printed rest (inr (inl of_spent)) e =
+    differ _ _ 21 115 110 refl refl (omega arith) (sym of_spent.text ∙ e)
+no_repair most table printed rest (inr (inr of_found)) e =
+    differ _ _ 21 102 110 refl refl (omega arith) (sym of_found.text ∙ e)
 
 pub none_says : (text : List ℕ) → NoneSays text (fit_text text)
 none_says text rest e = by (fit_says text)
@@ -128,15 +132,15 @@ module _ (text : List ℕ) where
       by (inr (table, fits, says)) = not_refused cap table (fit_text text) r says e
 
   -- a text that is no sheet
-  no_sheet : ¬ IsSheet text → (p : Option Sheet) → parse text ≡ p → p ≡ none
-  no_sheet n none e = refl
-  no_sheet n (some v) e = absurd (n ((sheet_parses text).1 (v, e)))
+  no_sheet : ¬ IsSheet text → (p : Option Sheet) → parse text ≡ p → p ≡ None
+  no_sheet n None e = refl
+  no_sheet n (Some v) e = absurd (n ((sheet_parses text).1 (v, e)))
 
   -- a sheet whose table fails a test
   by_table : (r : Refusal) → length text ≤ 4096 → (table : List ℕ) → SheetOf text table → TableRefused table r
       → fit_text text ≡ refused r
   by_table r short table (v, range, e, same) t =
-      let form : parse text ≡ some v = (parse_exact text v).1 (range, e) in
+      let form : parse text ≡ Some v = (parse_exact text v).1 (range, e) in
       let why : TableRefused (pack v) r = subst (λ (l : List ℕ). TableRefused l r) same t in
       text_read text short (Err r) (table_refused text 580 v form r (refused_back (pack v) r why))
 
@@ -153,7 +157,7 @@ module _ (text : List ℕ) where
   by_room : length text ≤ 4096 → (table : List ℕ) → SheetOf text table → IsTable table
       → 10000 < variable_formula (table_of table) → fit_text text ≡ refused ShortBuffer
   by_room short table (v, range, e, same) is many =
-      let form : parse text ≡ some v = (parse_exact text v).1 (range, e) in
+      let form : parse text ≡ Some v = (parse_exact text v).1 (range, e) in
       text_read text short (Ok tt) (room_enough text v form (ap table_verdict (sym same) ∙ (is_table table).1 is))
       ∙ ap (table_text cap) (ap packed form ∙ sym same)
       ∙ too_many cap table is many

@@ -3,7 +3,7 @@ use Prim.Native.Nat.{ℕ, ◌≤◌, ◌<◌}
 use mathlib.Core.Path.{◌≡◌, refl, sym, ap, subst, ◌∙◌}
 use mathlib.Core.Logic.{inl, inr}
 use mathlib.Core.List.{List, [], ◌∷◌, ◌++◌}
-use mathlib.Core.Option.{Option, none, some}
+use Rattle.std.specs.Prelude.{Option, None as none, Some as some}
 use native.Mathlib.Decide.{dec_lt}
 use native.Mathlib.Omega.{arith}
 use lib.ListN.{length, take, length-replicate}
@@ -27,23 +27,12 @@ use Rattle.sheet.specs.Parse.{parse}
 use Rattle.reader.specs.Read.{packed, read_verdict}
 use Rattle.reader.specs.Exact.{SheetOf, TextRefused}
 use Rattle.reader.proofs.Found.{text_refused, the_sheet, the_table}
-use Rattle.repair.specs.Outcome.{answer_at, written_after, repair_answer, repair_list}
+use Rattle.repair.specs.Effect.{answer_at, written_after, repair_answer, repair_list}
 use Rattle.repair.specs.Right.{RepairIsRight}
 use Rattle.repair.proofs.Right.{every_repair_is_right}
 use Rattle.repair.proofs.Order.{short_bytes}
-use Rattle.report.specs.Report.{
-  counted,
-  refused,
-  kept_line,
-  kept_lines,
-  found_text,
-  answer_text,
-  zeros,
-  table_text,
-  verdict_text,
-  cap,
-  fit_text,
-}
+use Rattle.report.specs.Texts.{counted, refused, kept_line, kept_lines, found_text, cap}
+use Rattle.report.specs.Report.{answer_text, zeros, table_text, verdict_text, fit_text}
 use Rattle.report.specs.Exact.{FitTable, FitRefused, TableSays, FitSays}
 use Rattle.report.proofs.Cases.{too_long, text_read}
 
@@ -168,7 +157,12 @@ module _ (text : List ℕ) (short : length text ≤ 4096) where
       by_size (yes many) = inl (ShortBuffer, (short, (table, sheet, is, many)), too_many cap table is many)
       by_size (no not_many) =
           let few : variable_formula (table_of table) ≤ 10000 = omega (arith, not_many) in
-          let fits : FitTable text table = record { short = short; sheet = sheet; is_table = is; few_variables = few } in
+          let fits : FitTable text table = record {
+            short = short;
+            sheet = sheet;
+            is_table = is;
+            few_variables = few;
+          } in
           inr (table, fits, table_says cap table is few)
 
 pub fit_says : (text : List ℕ) → FitSays text (fit_text text)

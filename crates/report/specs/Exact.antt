@@ -13,7 +13,7 @@ use Rattle.search.specs.Right.{choices}
 use Rattle.sheet.specs.Form.{IsSheet, ascii}
 use Rattle.reader.specs.Exact.{SheetOf}
 use Rattle.repair.specs.Right.{FoundList}
-use Rattle.report.specs.Report.{counted, refused, found_text, cap}
+use Rattle.report.specs.Texts.{counted, refused, found_text, cap}
 
 -- the text is a sheet of at most 4,096 bytes, and the bytes are its packed table, with a circuit of at most 10,000
 -- variables

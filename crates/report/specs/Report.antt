@@ -1,37 +1,14 @@
--- What program `fit` prints, for every text that it reads.
-use Rattle.std.specs.Prelude.{ℕ, Bool, true, false, List, [], ◌∷◌, ◌++◌, leb, length, replicate, Ok, Err}
-use Rattle.table.specs.declared.record.Step.{Step}
-use Rattle.table.specs.declared.refusal.Refusal.{Refusal}
+-- What program `fit` prints, as a function of the text that it reads.
+use Rattle.std.specs.Prelude.{ℕ, Bool, true, false, List, leb, length, replicate, Ok, Err}
 use Rattle.table.specs.declared.refusal.Refusal.TheVariants.{SheetForm}
-use Rattle.table.specs.Verdict.{Verdict, refusal_number}
-use Rattle.table.specs.Table.{steps_of}
+use Rattle.table.specs.Verdict.{Verdict}
 use Rattle.search.specs.declared.answer.Answer.{Answer}
 use Rattle.search.specs.declared.answer.Answer.TheVariants.{Found, None, Spent, Refused}
-use Rattle.sheet.specs.Form.{ascii, line}
+use Rattle.sheet.specs.Form.{ascii}
+use Rattle.report.specs.Texts.{counted, refused, found_text, cap}
 use Rattle.sheet.specs.Parse.{parse}
 use Rattle.reader.specs.Read.{packed, read_verdict}
-use Rattle.repair.specs.Outcome.{repair_answer, repair_list}
-
--- found, none and spent come with the choices and the price, refused with the refusal's number
-abbrev pub counted : List ℕ → ℕ → ℕ → List ℕ
-counted word choices price = ascii "answer choices price\n" ++ (word ++ line (choices ∷ price ∷ []))
-
-abbrev pub refused : Refusal → List ℕ
-refused r = ascii "answer number\nrefused " ++ line (refusal_number r ∷ [])
-
--- a line for each step: from, to, and 1 kept or 0 struck
-abbrev pub kept_line : Step → ℕ → List ℕ
-kept_line x kept = line (x.from ∷ x.to ∷ kept ∷ [])
-
-unfoldable pub kept_lines : List Step → List ℕ → List ℕ
-kept_lines [] list = []
-kept_lines (x ∷ steps) [] = []
-kept_lines (x ∷ steps) (kept ∷ list) = kept_line x kept ++ kept_lines steps list
-
--- where a repair is found, the list as well
-abbrev pub found_text : List ℕ → ℕ → ℕ → List ℕ → List ℕ
-found_text table price choices list =
-    counted (ascii "found ") choices price ++ (ascii "from to kept\n" ++ kept_lines (steps_of table) list)
+use Rattle.repair.specs.Effect.{repair_answer, repair_list}
 
 -- What is printed of Repair's answer and of the list that it leaves; none and spent are printed with the price 0. The
 -- settled steps are not printed.
@@ -64,10 +41,6 @@ limited most false text = refused SheetForm
 
 unfoldable pub text_under : ℕ → List ℕ → List ℕ
 text_under most text = limited most (leb (length text) 4096) text
-
--- the most choices that the program makes
-abbrev pub cap : ℕ
-cap = 1000000
 
 abbrev pub fit_text : List ℕ → List ℕ
 fit_text text = text_under cap text

@@ -1,16 +1,16 @@
 // What is printed of each answer.
-ghost use Rattle.render.specs.Render.{Room, Stored};
-ghost use Rattle.report.specs.Report.{refused, found_text, answer_text};
+ghost use Rattle.render.specs.Stored.{HasRoom, Stored};
+ghost use Rattle.report.specs.Texts.{refused, found_text};
+ghost use Rattle.report.specs.Report.{answer_text};
 
-use crate::STEPS;
 use crate::lines::write_answer;
 use crate::steps::write_steps;
 use render::{put_bytes, write_values};
 use search::Answer;
-use table::{Accepted, Refusal};
+use table::{Accepted, MOST_STEPS, Refusal};
 
 pub fn write_refused(out: &mut [u8], refusal: Refusal) -> usize
-    requires { Room out.old 0 (refused refusal) }
+    requires { HasRoom out.old 0 (refused refusal) }
     ensures { Stored out.old 0 (refused refusal) out.new result }
 {
     let number = u32::from(refusal);
@@ -22,10 +22,10 @@ fn write_found(
     table: &Accepted<'_>,
     price: u32,
     choices: u64,
-    list: &[u8; STEPS],
+    list: &[u8; MOST_STEPS],
     out: &mut [u8],
 ) -> usize
-    requires { Room out.old 0 (found_text table.now.bytes.now price choices list.now) }
+    requires { HasRoom out.old 0 (found_text table.now.bytes.now price choices list.now) }
     ensures { Stored out.old 0 (found_text table.now.bytes.now price choices list.now) out.new result }
 {
     let third = write_answer(out, b"found ", choices as usize, price as usize);
@@ -36,10 +36,10 @@ fn write_found(
 pub fn write_result(
     table: &Accepted<'_>,
     answer: Answer,
-    list: &[u8; STEPS],
+    list: &[u8; MOST_STEPS],
     out: &mut [u8],
 ) -> usize
-    requires { Room out.old 0 (answer_text table.now.bytes.now answer list.now) }
+    requires { HasRoom out.old 0 (answer_text table.now.bytes.now answer list.now) }
     ensures { Stored out.old 0 (answer_text table.now.bytes.now answer list.now) out.new result }
 {
     match answer {

@@ -10,45 +10,44 @@ mod steps;
 mod tests;
 
 ghost use Rattle.std.specs.Prelude.{◌≡◌, ◌++◌, ◌≤◌, length, drop};
-ghost use Rattle.render.specs.Render.{Room, Stored};
-ghost use Rattle.report.specs.Report.{table_text, cap, fit_text};
+ghost use Rattle.render.specs.Stored.{HasRoom, Stored};
+ghost use Rattle.report.specs.Texts.{cap};
+ghost use Rattle.report.specs.Report.{table_text, fit_text};
 ghost use Rattle.report.specs.Exact.{FitSays, NoneSays, ListSays, RefusedSays};
 
 use answer::{write_refused, write_result};
 pub use laws::samples;
 use reader::LONGEST;
 pub use run::fit_input;
-use table::{Accepted, Refusal};
+use table::{Accepted, MOST_STEPS, Refusal};
 
-// The most bytes that are taken.
-pub const MOST: usize = 4096;
+// How many bytes a text may have: a longer one is refused as no sheet.
+const MOST: usize = 4096;
 
-// Room for what is printed.
-pub const OUTPUT: usize = 2048;
+/// HasRoom for whatever is printed.
+const OUTPUT: usize = 2048;
 
 // The most choices that the search makes.
 const CAP: u64 = 1000000;
-
-// The most steps of an accepted table.
-const STEPS: usize = 128;
 
 // The work entries that are lent. A table that needs more is refused.
 const WORK: usize = 10000;
 
 fn report_table(table: &Accepted<'_>, out: &mut [u8]) -> usize
-    requires { Room out.old 0 (table_text cap table.now.bytes.now) }
+    requires { HasRoom out.old 0 (table_text cap table.now.bytes.now) }
     ensures { Stored out.old 0 (table_text cap table.now.bytes.now) out.new result }
 {
-    let mut list = [0u8; STEPS];
+    let mut list = [0u8; MOST_STEPS];
     let mut bytes = [0u8; WORK];
     let mut words = [0u32; WORK];
     let answer = repair::repair_accepted(table, CAP, &mut list, &mut bytes, &mut words);
     write_result(table, answer, &list, out)
 }
 
-/// Answers how many bytes are printed. They stand at the front of the buffer, and the rest of it is as it was.
+/// What program `fit` prints for a text: answers how many bytes these are. They stand at the front of the buffer, and
+/// the rest of it is as it was.
 pub fn fit_report(text: &[u8], out: &mut [u8]) -> usize
-    requires { 2048 ≤ length out.old }
+    requires { OUTPUT ≤ length out.old }
     ensures value { result ≡ length (fit_text text.now) }
     ensures out_after { out.new ≡ fit_text text.now ++ drop (length (fit_text text.now)) out.old }
     // what is printed, in the words of sheets, tables and repairs: one of a refusal, none, spent and found

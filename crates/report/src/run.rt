@@ -1,6 +1,6 @@
 // All that program `fit` does, over a reader and a writer.
 ghost use Rattle.std.specs.Prelude.{◌≡◌, ◌≤◌, List, ℕ, length, take, OnOk};
-ghost use Rattle.input.specs.Input.{Gave, Inside};
+ghost use Rattle.input.specs.Input.{Gave, CountFits};
 ghost use Rattle.report.specs.Report.{fit_text};
 ghost use Rattle.report.specs.Run.{Printed, WrittenSays};
 
@@ -12,7 +12,7 @@ use table::Refusal;
 
 // What is printed of the text that was read.
 fn report_input(input: Input, text: &[u8; MOST], out: &mut [u8; OUTPUT]) -> usize
-    requires { Inside input (length text.now) }
+    requires { CountFits input (length text.now) }
     ensures inside { result ≤ length out.new }
     ensures printed { (bytes : List ℕ) → Gave bytes text.now input → take result out.new ≡ fit_text bytes }
 {

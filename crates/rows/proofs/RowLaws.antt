@@ -11,10 +11,18 @@ use lib.Dec.{eqb, ltb}
 use lib.Pow.{pow_mono, ones_sub-lt}
 use Rattle.sets.specs.Member.{member, set_of, lowest_of}
 use Rattle.sets.proofs.Laws.{member-and, member-or, member-zero, member_complement, member_inside}
-use Rattle.sets.proofs.SetOf.{member-set_of-below, set_of-lt, empty, some_member, lowest_of-has, lowest_of_least, in_set}
+use Rattle.sets.proofs.SetOf.{
+  member-set_of-below,
+  set_of-lt,
+  empty,
+  some_member,
+  lowest_of-has,
+  lowest_of_least,
+  in_set,
+}
 use Rattle.table.proofs.Bools.{and_parts, parts_and, or_parts, or_left, or_right, or_neither}
 use Rattle.rows.specs.declared.row.Row.{Row}
-use Rattle.rows.specs.Row.{known, turned, without, only, Clear, clashes, union}
+use Rattle.rows.specs.Row.{known, turn, without, only, Clear, clashes, union}
 use Rattle.rows.specs.Words.{SmallRow}
 use Rattle.rows.specs.Rules.{unmet}
 
@@ -22,8 +30,10 @@ use Rattle.rows.specs.Rules.{unmet}
 
 -- members of both, of one of them
 pub and-true : (x y t : ℕ) → (member (bit_and x y) t ≡ true) ↔ ((member x t ≡ true) × (member y t ≡ true))
-and-true x y t =
-    (λ e. and_parts (member x t) (member y t) (sym (member-and x y t) ∙ e), λ r. member-and x y t ∙ parts_and (member x t) (member y t) r.0 r.1)
+and-true x y t = (
+  λ e. and_parts (member x t) (member y t) (sym (member-and x y t) ∙ e),
+  λ r. member-and x y t ∙ parts_and (member x t) (member y t) r.0 r.1,
+)
 
 pub or-true : (x y t : ℕ) → (member (bit_or x y) t ≡ true) ↔ ((member x t ≡ true) ⊎ (member y t ≡ true))
 or-true x y t = (
@@ -37,7 +47,8 @@ cond-true true x t = (λ e. (refl, e), λ r. r.1)
 cond-true false x t = (λ e. absurd (true≢false (sym e ∙ member-zero t)), λ r. absurd (false≢true r.0))
 
 -- a member of one set that is not in the other
-pub without-true : (x y t : ℕ) → y < 2 ^ 32 → (member (without x y) t ≡ true) ↔ ((t < 32) × (member x t ≡ true) × (member y t ≡ false))
+pub without-true : (x y t : ℕ) → y < 2 ^ 32
+    → (member (without x y) t ≡ true) ↔ ((t < 32) × (member x t ≡ true) × (member y t ≡ false))
 without-true x y t h = (
   λ e. let p = (and-true x (4294967295 - y) t).0 e in
       let q = and_parts (ltb t 32) (not (member y t)) (sym (member_complement 32 y t h) ∙ p.1) in
@@ -60,7 +71,8 @@ pub some_nonempty : (x t : ℕ) → member x t ≡ true → eqb x 0 ≡ false
 some_nonempty x t e = ne_eqb x 0 (λ q. true≢false (sym e ∙ ap (λ (y : ℕ). member y t) q ∙ member-zero t))
 
 -- a set with one member has no other
-pub only-true : (x : ℕ) → x < 2 ^ 32 → (only x ≡ true) ↔ ((c : ℕ) × (member x c ≡ true) × ((t : ℕ) → member x t ≡ true → t ≡ c))
+pub only-true : (x : ℕ) → x < 2 ^ 32
+    → (only x ≡ true) ↔ ((c : ℕ) × (member x c ≡ true) × ((t : ℕ) → member x t ≡ true → t ≡ c))
 unfolding only
 only-true x h = (there, back)
   where
@@ -83,13 +95,17 @@ only-true x h = (there, back)
         same : (t : ℕ) → member x t ≡ true → eqb others 0 ≡ true → (b : Bool) → eqb t low ≡ b → t ≡ low
         same t m none true q = eqb-true t low q
         same t m none false q = absurd (true≢false (sym
-            ((in_set 32 (λ t. member x t && not (eqb t low)) t).1 (member_inside 32 x t h m, parts_and (member x t) (not (eqb t low)) m (ap not q)))
+            ((in_set 32 (λ t. member x t && not (eqb t low)) t).1 (
+              member_inside 32 x t h m,
+              parts_and (member x t) (not (eqb t low)) m (ap not q),
+            ))
             ∙ empty_none others none t))
 
     back : (c : ℕ) × (member x c ≡ true) × ((t : ℕ) → member x t ≡ true → t ≡ c) → only x ≡ true
     back (c, m, one) =
         parts_and (not (eqb x 0)) (eqb others 0) (ap not (some_nonempty x c m))
-        (none_empty others (set_of-lt 32 _) (λ t l. member-set_of-below 32 (λ t. member x t && not (eqb t low)) t l ∙ none t (member x t) refl))
+        (none_empty others (set_of-lt 32 _)
+        (λ t l. member-set_of-below 32 (λ t. member x t && not (eqb t low)) t l ∙ none t (member x t) refl))
       where
         none : (t : ℕ) (b : Bool) → member x t ≡ b → b && not (eqb t low) ≡ false
         none t false q = refl
@@ -109,29 +125,34 @@ set_small n h f = lt_of_lt_of_le (set_of-lt n f) (pow_mono {i = n} {j = 32} (ome
 
 -- ---- rows
 
-pub turned_small : (b : Bool) (r : Row) → SmallRow r → SmallRow (turned b r)
+pub turned_small : (b : Bool) (r : Row) → SmallRow r → SmallRow (turn b r)
 turned_small true r h = h
 turned_small false r h = (h.1, h.0)
 
 -- what two rows know together
-pub union-true : (r q : Row) (sign : Bool) (s : ℕ) → (known (union r q) sign s ≡ true) ↔ ((known r sign s ≡ true) ⊎ (known q sign s ≡ true))
+pub union-true : (r q : Row) (sign : Bool) (s : ℕ)
+    → (known (union r q) sign s ≡ true) ↔ ((known r sign s ≡ true) ⊎ (known q sign s ≡ true))
 union-true r q true s = or-true r.yes q.yes s
 union-true r q false s = or-true r.no q.no s
 
 -- a row that does not clash is clear, and one that does knows a state both ways
 pub clear_row : (r : Row) → SmallRow r → clashes r ≡ false → Clear r
 clear_row r h e s y n =
-    true≢false (sym ((and-true r.yes r.no s).1 (y, n)) ∙ empty_none (bit_and r.yes r.no) (not-false (eqb (bit_and r.yes r.no) 0) e) s)
+    true≢false (sym ((and-true r.yes r.no s).1 (y, n))
+    ∙ empty_none (bit_and r.yes r.no) (not-false (eqb (bit_and r.yes r.no) 0) e) s)
 
-pub clash_state : (r : Row) → SmallRow r → clashes r ≡ true → (s : ℕ) × (known r true s ≡ true) × (known r false s ≡ true)
+pub clash_state : (r : Row) → SmallRow r → clashes r ≡ true
+    → (s : ℕ) × (known r true s ≡ true) × (known r false s ≡ true)
 clash_state r h e =
-    let f = nonempty_some (bit_and r.yes r.no) (and_lt 32 r.yes r.no h.0 h.1) (not-true (eqb (bit_and r.yes r.no) 0) e) in
+    let f = nonempty_some (bit_and r.yes r.no) (and_lt 32 r.yes r.no h.0 h.1)
+    (not-true (eqb (bit_and r.yes r.no) 0) e) in
     let p = (and-true r.yes r.no f.0).0 f.2 in
     (f.0, p.0, p.1)
 
 -- an end that is not met: it is an end, its step is not struck, and it is not known to have it
 pub unmet-true : (target : ℕ) (step end : Row) → SmallRow step → SmallRow end → (t : ℕ)
-    → (member (unmet target step end) t ≡ true) ↔ ((t < 32) × (member target t ≡ true) × (member step.no t ≡ false) × (member end.yes t ≡ false))
+    → (member (unmet target step end) t ≡ true)
+    ↔ ((t < 32) × (member target t ≡ true) × (member step.no t ≡ false) × (member end.yes t ≡ false))
 unmet-true target step end hs he t = (
   λ e. let p = law.0 e in
       let q = or_neither (member step.no t) (member end.yes t) (sym (member-or step.no end.yes t) ∙ p.2) in
@@ -139,5 +160,6 @@ unmet-true target step end hs he t = (
   λ r. law.1 (r.0, r.1, member-or step.no end.yes t ∙ ap₂ ◌||◌ r.2 r.3),
 )
   where
-    law : (member (unmet target step end) t ≡ true) ↔ ((t < 32) × (member target t ≡ true) × (member (bit_or step.no end.yes) t ≡ false))
+    law : (member (unmet target step end) t ≡ true)
+        ↔ ((t < 32) × (member target t ≡ true) × (member (bit_or step.no end.yes) t ≡ false))
     law = without-true target (bit_or step.no end.yes) t (or_lt 32 step.no end.yes hs.1 he.0)

@@ -16,7 +16,8 @@ word_below true s h = omega arith
 word_below false s h = omega arith
 
 -- what a row knows of a state is a bit of one of its words
-pub word_bit : (rows : List ℕ) (sign : Bool) (s t : ℕ) → member (get_or rows (word_of sign s) 0) t ≡ known (row_at rows (step_place s)) sign t
+pub word_bit : (rows : List ℕ) (sign : Bool) (s t : ℕ)
+    → member (get_or rows (word_of sign s) 0) t ≡ known (row_at rows (step_place s)) sign t
 word_bit rows true s t = refl
 word_bit rows false s t = refl
 

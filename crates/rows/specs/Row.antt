@@ -10,9 +10,9 @@ known r true s = member r.yes s
 known r false s = member r.no s
 
 -- the row, or its dual
-abbrev pub turned : Bool → Row → Row
-turned true r = r
-turned false r = record { yes = r.no; no = r.yes }
+abbrev pub turn : Bool → Row → Row
+turn true r = r
+turn false r = record { yes = r.no; no = r.yes }
 
 -- the members of x that are not in y
 abbrev pub without : ℕ → ℕ → ℕ

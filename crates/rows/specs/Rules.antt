@@ -1,6 +1,7 @@
--- The rules of propagation on whole rows: for each gate, what the rows of its variables add to each other. Step gates, N and G have no row: what is
--- forced of them is worked out from the rows beside them. A and E, AND and OR, release and until, always and eventually are duals: the
--- rules are those of A, AND, release and always, and `turned` takes the rows of the others.
+-- The rules of propagation on whole rows: for each gate, what the rows of its variables add to each other. Step
+-- gates, N and G have no row: what is forced of them is worked out from the rows beside them. A and E, AND and OR,
+-- release and until, always and eventually are duals: the rules are those of A, AND, release and always, and `turned`
+-- takes the rows of the others.
 use Rattle.std.specs.Prelude.{ℕ, Bool, true, false, not, cond, ◌&&◌, ◌||◌, eqb, ltb}
 use Rattle.std.specs.Int.Bits.{bit_and, bit_or}
 use Rattle.sets.specs.Member.{member, set_of}
@@ -8,7 +9,7 @@ use Rattle.rows.specs.declared.row.Row.{Row}
 use Rattle.table.specs.declared.operator.Family.{Family}
 use Rattle.table.specs.declared.operator.Family.TheVariants.{Release, Until, Eventually, Always}
 use Rattle.rows.specs.declared.joined.Joined.{Joined}
-use Rattle.rows.specs.Row.{turned, without, only, union, clashes}
+use Rattle.rows.specs.Row.{turn, without, only, union, clashes}
 
 abbrev pub row : ℕ → ℕ → Row
 row t f = record { yes = t; no = f }
@@ -21,7 +22,8 @@ unmet target step end = without target (bit_or step.no end.yes)
 
 -- N at each of the n states: true where no step is left, false where a kept step's end is known false
 abbrev pub ahead_row : (ℕ → ℕ) → (ℕ → Row) → ℕ → Row → Row
-ahead_row target step n end = row (set_of n (λ s. eqb (unmet (target s) (step s) end) 0)) (set_of n (λ s. not (eqb (bit_and (step s).yes end.no) 0)))
+ahead_row target step n end = row (set_of n (λ s. eqb (unmet (target s) (step s) end) 0))
+    (set_of n (λ s. not (eqb (bit_and (step s).yes end.no) 0)))
 
 -- the same at the states of a set alone
 abbrev pub ahead_at : (ℕ → ℕ) → (ℕ → Row) → ℕ → Row → Row
@@ -33,11 +35,13 @@ ahead_at target step set end = row
 abbrev pub last_left : ℕ → Row → Row → Bool → ℕ
 last_left target step end f = cond (f && only (unmet target step end)) (unmet target step end) 0
 
--- what N at a state, known true or false, adds to the steps out of it: where true, a step whose end is known false is struck; where false, the last step left is kept
+-- what N at a state, known true or false, adds to the steps out of it: where true, a step whose end is known false is
+-- struck; where false, the last step left is kept
 abbrev pub back_steps : ℕ → Row → Row → Bool → Bool → Row
 back_steps target step end t f = row (last_left target step end f) (cond t (bit_and target end.no) 0)
 
--- and to `end` at their ends: where true, it is true at the end of each kept step; where false, it is false at the end of the last step left
+-- and to `end` at their ends: where true, it is true at the end of each kept step; where false, it is false at the
+-- end of the last step left
 abbrev pub back_end : ℕ → Row → Row → Bool → Bool → Row
 back_end target step end t f = row (cond t step.yes 0) (last_left target step end f)
 
@@ -127,23 +131,23 @@ inner_falling Until level a b ahead = either_row level a b ahead
 inner_falling Eventually level a b ahead = row 0 0
 inner_falling Always level a b ahead = row 0 0
 
-abbrev pub turned_joined : Bool → Joined → Joined
-turned_joined e J = record {
-  level = turned e J.level;
-  a = turned e J.a;
-  b = turned e J.b;
-  ahead = turned e J.ahead;
-  more = turned e J.more;
+abbrev pub turn_joined : Bool → Joined → Joined
+turn_joined e J = record {
+  level = turn e J.level;
+  a = turn e J.a;
+  b = turn e J.b;
+  ahead = turn e J.ahead;
+  more = turn e J.more;
   fails = J.fails;
 }
 
 module _ (family : Family) (level a b ahead : Row) where
   abbrev dual : Row → Row
-  dual = turned (falls family)
+  dual = turn (falls family)
 
   -- what a level joins, and what it has for G
   abbrev pub join_of : Joined
-  join_of = turned_joined (falls family) (join_falling family (dual level) (dual a) (dual b) (dual ahead))
+  join_of = turn_joined (falls family) (join_falling family (dual level) (dual a) (dual b) (dual ahead))
 
   abbrev pub inner_of : Row
   inner_of = dual (inner_falling family (dual level) (dual a) (dual b) (dual ahead))
@@ -160,9 +164,10 @@ kept_row s target step = row
     (bit_or step.yes (set_of 32 (λ t. eqb t s && not (eqb step.yes 0))))
     (set_of 32 (λ t. eqb t s && eqb (unstruck target step) 0))
 
--- what K adds to the steps out of s: the last step left of a kept state is kept; a step is struck where its own state or its end is not kept
-abbrev pub kept_steps : ℕ → ℕ → Row → Row → Row
-kept_steps s target step kept = row
+-- what K adds to the steps out of s: the last step left of a kept state is kept; a step is struck where its own state
+-- or its end is not kept
+abbrev pub kept_back : ℕ → ℕ → Row → Row → Row
+kept_back s target step kept = row
     (cond (member kept.yes s && only (unstruck target step)) (unstruck target step) 0)
     (bit_or (cond (member kept.no s) target 0) (bit_and target kept.no))
 
@@ -174,7 +179,8 @@ open_starts initial kept = without initial kept.no
 
 -- the last of them is kept; an initial state where the root is false is not
 abbrev pub start_kept : ℕ → Row → Row → Row
-start_kept initial kept root = row (cond (only (open_starts initial kept)) (open_starts initial kept) 0) (bit_and root.no initial)
+start_kept initial kept root =
+    row (cond (only (open_starts initial kept)) (open_starts initial kept) 0) (bit_and root.no initial)
 
 -- a kept initial state has the root
 abbrev pub start_root : ℕ → Row → Row

@@ -8,13 +8,14 @@ abbrev pub row_at : List ℕ → ℕ → Row
 row_at ws at = record { yes = get_or ws at 0; no = get_or ws (at + 1) 0 }
 
 -- with what x knows added to the row at a place
-abbrev pub joined : List ℕ → ℕ → Row → List ℕ
-joined ws at x = set (set ws at (union (row_at ws at) x).yes) (at + 1) (union (row_at ws at) x).no
+abbrev pub row_added : List ℕ → ℕ → Row → List ℕ
+row_added ws at x = set (set ws at (union (row_at ws at) x).yes) (at + 1) (union (row_at ws at) x).no
 
 -- whether that added a bit, and whether something is now known both ways
 abbrev pub report_of : List ℕ → ℕ → Row → Report
 report_of ws at x = record {
-  changed = not (eqb (union (row_at ws at) x).yes (get_or ws at 0)) || not (eqb (union (row_at ws at) x).no (get_or ws (at + 1) 0));
+  changed = not (eqb (union (row_at ws at) x).yes (get_or ws at 0))
+      || not (eqb (union (row_at ws at) x).no (get_or ws (at + 1) 0));
   fails = clashes (union (row_at ws at) x);
 }
 

@@ -1,13 +1,13 @@
 // A level of a fixed-point node from what is known around it, by the node's family.
 ghost use Rattle.std.specs.Prelude.{◌≡◌, false};
-ghost use Rattle.rows.specs.Rules.{join_release, join_always, turned_joined, join_of};
+ghost use Rattle.rows.specs.Rules.{join_release, join_always, turn_joined, join_of};
 
 use crate::row::{Row, clashes, new_of, turn, union};
 use crate::rules::{and_input, and_output};
 use table::Family;
 
-// What the level and the children a and b get, N with what the level adds to it, that alone, and whether G or N is known both ways.
-// Where it fails the rows are added all the same, so it is no option.
+/// What the level and the children a and b get, N with what the level adds to it, that alone, and whether G or N is
+/// known both ways. Where it fails the rows are added all the same, so it is no option.
 #[derive(Clone, Copy)]
 pub struct Joined {
     pub level: Row,
@@ -67,7 +67,7 @@ fn join_always(level: Row, b: Row, ahead: Row) -> Joined
 
 // The dual of each row.
 fn turn_joined(j: Joined) -> Joined
-    ensures { result ≡ turned_joined false j }
+    ensures { result ≡ turn_joined false j }
 {
     Joined {
         level: turn(false, j.level),
@@ -79,7 +79,7 @@ fn turn_joined(j: Joined) -> Joined
     }
 }
 
-// Until is the dual of release, and eventually that of always.
+/// Until is the dual of release, and eventually that of always.
 pub fn join(family: Family, level: Row, a: Row, b: Row, ahead: Row) -> Joined
     ensures { result ≡ join_of family level a b ahead }
 {

@@ -10,8 +10,8 @@ mod steps;
 pub use joined::{Joined, join};
 pub use next::{Pushed, ahead, push};
 pub use row::{
-    Report, Row, add, both, clashes, is_none, is_only, is_quiet, last_left, mask, new_of, row_at,
+    ROW_WORDS, Report, Row, add, both, is_none, is_quiet, last_left, mask, new_of, row_at,
     step_row, turn, union,
 };
-pub use rules::{and_input, and_output, constant_row, kept_row, kept_steps};
+pub use rules::{and_input, and_output, constant_row, kept_back, kept_row};
 pub use steps::{is_known, is_settled, word_of};

@@ -1,14 +1,15 @@
-// N, the AND over the steps out of a state of "struck, or the end has it", forward and back.
+// N, the AND over the steps out of a state of: it is struck, or its end has the literal; forward and back.
 ghost use Rattle.std.specs.Prelude.{◌≡◌, true, false, get_or};
 ghost use Rattle.rows.specs.Row.{known};
 ghost use Rattle.rows.specs.Rules.{ahead_at};
 ghost use Rattle.rows.specs.Words.{row_at, step_place};
 ghost use Rattle.rows.specs.Pushed.{pushed};
 
-use crate::row::{Row, last_left, step_row};
+use crate::row::{ROW_WORDS, Row, last_left, step_row};
+use table::MOST_STATES;
 
-// N at each state of a set: true where no step is left, false where a kept step's end is known false.
-pub fn ahead(targets: &[u32; 32], rows: &[u32; 130], set: u32, end: Row) -> Row
+/// N at each state of a set: true where no step is left, false where a kept step's end is known false.
+pub fn ahead(targets: &[u32; MOST_STATES], rows: &[u32; ROW_WORDS], set: u32, end: Row) -> Row
     ensures { result ≡ ahead_at (λ s. get_or targets.now s 0) (λ s. row_at rows.now (step_place s)) set end }
 {
     let mut yes = 0u32;
@@ -22,14 +23,14 @@ pub fn ahead(targets: &[u32; 32], rows: &[u32; 130], set: u32, end: Row) -> Row
     Row { yes, no }
 }
 
-// What N at one state adds to the steps out of it, and to what is known at their ends.
+/// What N at one state adds to the steps out of it, and to what is known at their ends.
 #[derive(Clone, Copy)]
 pub struct Pushed {
     pub steps: Row,
     pub end: Row,
 }
 
-// N at each state is known as `ahead` says.
+/// N at each state is known as `ahead` says.
 pub fn push(s: usize, target: u32, step: Row, ahead: Row, end: Row) -> Pushed
     ensures { result ≡ pushed target step end (known ahead true s) (known ahead false s) }
 {

@@ -1,12 +1,13 @@
 // Rules on whole rows: K with the steps out of a state, AND, and the row of a constant.
 ghost use Rattle.std.specs.Prelude.{◌≡◌, ◌<◌};
-ghost use Rattle.rows.specs.Rules.{kept_row, kept_steps, and_output, and_input, constant_row};
+ghost use Rattle.rows.specs.Rules.{kept_row, kept_back, and_output, and_input, constant_row};
 
 use crate::row::{Row, last_left};
+use table::MOST_STATES;
 
-// What the steps out of s add to K.
+/// What the steps out of s add to K.
 pub fn kept_row(s: usize, target: u32, step: Row) -> Row
-    requires { s < 32 }
+    requires { s < MOST_STATES }
     ensures { result ≡ kept_row s target step }
 {
     Row {
@@ -15,9 +16,9 @@ pub fn kept_row(s: usize, target: u32, step: Row) -> Row
     }
 }
 
-// What K adds to the steps out of s.
-pub fn kept_steps(s: usize, target: u32, step: Row, kept: Row) -> Row
-    ensures { result ≡ kept_steps s target step kept }
+/// What K adds to the steps out of s.
+pub fn kept_back(s: usize, target: u32, step: Row, kept: Row) -> Row
+    ensures { result ≡ kept_back s target step kept }
 {
     let left = target & !step.no;
     let last = last_left(sets::contains(kept.yes, s), left);
@@ -32,7 +33,7 @@ pub fn kept_steps(s: usize, target: u32, step: Row, kept: Row) -> Row
     }
 }
 
-// What the inputs of an AND add to its output.
+/// What the inputs of an AND add to its output.
 pub fn and_output(g: Row, a: Row, b: Row) -> Row
     ensures { result ≡ and_output g a b }
 {
@@ -42,7 +43,7 @@ pub fn and_output(g: Row, a: Row, b: Row) -> Row
     }
 }
 
-// What the output adds to an input beside the other.
+/// What the output adds to an input beside the other.
 pub fn and_input(g: Row, other: Row) -> Row
     ensures { result ≡ and_input g other }
 {
@@ -52,7 +53,7 @@ pub fn and_input(g: Row, other: Row) -> Row
     }
 }
 
-// Of n states, those of a set true and the others false.
+/// Of n states, those of a set true and the others false.
 pub fn constant_row(n: usize, set: u32) -> Row
     ensures { result ≡ constant_row n set }
 {

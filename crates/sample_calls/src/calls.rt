@@ -5,7 +5,8 @@ use fitter::Answer;
 pub fn sheet() -> [u8; 40] {
     let mut table = [0u8; 40];
     let _ = fitter::read(
-        b"states edges nodes props\n3 4 5 1\ninitial label\n1 0\n0 1\n0 1\nfrom to price\n0 1 1\n1 0 2\n1 2 3\n2 2 4\nkind a b\n0 0 0\n2 0 0\n9 0 1\n3 2 0\n8 0 3\n",
+        b"states edges nodes props\n3 4 5 1\ninitial label\n1 0\n0 1\n0 1\n\
+          from to price\n0 1 1\n1 0 2\n1 2 3\n2 2 4\nkind a b\n0 0 0\n2 0 0\n9 0 1\n3 2 0\n8 0 3\n",
         &mut table,
     );
     table

@@ -5,7 +5,8 @@ use Rattle.sets.specs.Member.{member, count_of}
 use Rattle.table.specs.Table.{records}
 use Rattle.table.specs.Accept.{all, any, distinct, nodes_fit, table_verdict, list_verdict}
 use Rattle.ctl.specs.Rule.{bottom_up}
-use Rattle.ctl.specs.Levels.{tabulate, iterate, next_in, level, levels, select}
+use Rattle.ctl.specs.Range.{tabulate, select}
+use Rattle.ctl.specs.Levels.{iterate, next_in, level, levels}
 use Rattle.ctl.specs.Labels.{kept_steps, ends_from, label_of, label}
 use Rattle.ctl.specs.Price.{sum_below}
 use Rattle.ctl.specs.Reached.{reached_set, strike}
@@ -14,11 +15,11 @@ use Rattle.circuit.specs.Logic.{gate_clauses}
 use Rattle.circuit.specs.Variables.{concat, out_of, node_variables, variables, costs, variable_formula}
 use Rattle.circuit.specs.Gates.{node_gates, gates}
 use Rattle.circuit.specs.Clauses.{demands, clauses}
-use Rattle.closure.specs.Closure.{open_in, take_clause, round, rounds, marks_of}
+use Rattle.closure.specs.Computed.{open_in, take_clause, round, rounds, marks_of}
 use Rattle.search.specs.Search.{walk, search}
 use Rattle.closure.specs.Numbered.{same_code, place, numbered_clauses}
 use Rattle.search.specs.TableSearch.{table_search}
-use Rattle.repair.specs.Outcome.{repair_verdict}
+use Rattle.repair.specs.Effect.{repair_verdict}
 use Rattle.samples.specs.Samples.{answers, passes}
 use Rattle.samples.specs.Families.{family_cases}
 

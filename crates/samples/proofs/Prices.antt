@@ -1,4 +1,5 @@
--- The samples of prices: the sheet's answer at any prices, by the one comparison that the search makes of them; the fork's by computation.
+-- The samples of prices: the sheet's answer at any prices, by the one comparison that the search makes of them; the
+-- fork's by computation.
 use Prim.Native.Nat.{ℕ, ◌+◌, ◌≤◌, ◌<◌}
 use mathlib.Core.Path.{◌≡◌, refl, sym, ap, ◌∙◌}
 use mathlib.Core.Bool.{Bool, true, false}
@@ -16,7 +17,8 @@ use Rattle.table.specs.Buffer.{on_accepted}
 use Rattle.table.proofs.Facts.{accepted}
 use Rattle.table.proofs.Refused.{is_table}
 use Rattle.ctl.specs.Rule.{bottom_up}
-use Rattle.ctl.specs.Levels.{tabulate, iterate, next_in, level, levels, select}
+use Rattle.ctl.specs.Range.{tabulate, select}
+use Rattle.ctl.specs.Levels.{iterate, next_in, level, levels}
 use Rattle.ctl.specs.Labels.{kept_steps, ends_from, label_of, label}
 use Rattle.ctl.specs.Price.{sum_below}
 use Rattle.ctl.specs.Reached.{reached_set, strike}
@@ -26,14 +28,39 @@ use Rattle.circuit.specs.Logic.{Literal, pos, neg, gate_clauses}
 use Rattle.circuit.specs.Variables.{concat, out_of, node_variables, variables, variable_count, costs, variable_formula}
 use Rattle.circuit.specs.Gates.{node_gates, gates}
 use Rattle.circuit.specs.Clauses.{demands, clauses}
-use Rattle.closure.specs.Closure.{Marks, Progress, clash, marked, closure, open_in, take_clause, round, rounds, marks_of}
+use Rattle.closure.specs.Computed.{
+  Marks,
+  Progress,
+  clash,
+  marked,
+  closure,
+  open_in,
+  take_clause,
+  round,
+  rounds,
+  marks_of,
+}
 use Rattle.closure.specs.Numbered.{same_code, place, numbered_clauses}
-use Rattle.search.specs.Search.{Best, find, Walked, passed, cut, Outcome, found, spent, outcome_of, uncapped, choose, walk, search}
+use Rattle.search.specs.Search.{
+  Best,
+  find,
+  Walked,
+  passed,
+  cut,
+  Outcome,
+  found,
+  spent,
+  outcome_of,
+  uncapped,
+  choose,
+  walk,
+  search,
+}
 use Rattle.search.specs.TableSearch.{table_search, mark_price, search_under, search_free, list_of}
 use Rattle.search.specs.Answer.{answer_of}
 use Rattle.search.specs.Right.{choices, settled, SearchIsRight}
 use Rattle.search.proofs.Right.{search_is_right}
-use Rattle.repair.specs.Outcome.{repair_verdict, written_after, answer_at, repair_answer, repair_list}
+use Rattle.repair.specs.Effect.{repair_verdict, written_after, answer_at, repair_answer, repair_list}
 use Rattle.repair.specs.Right.{LongEnough}
 use Rattle.repair.proofs.Refusals.{fits}
 use Rattle.samples.specs.Samples.{answers, passes, priced}
@@ -82,27 +109,40 @@ module _ (p q r s : ℕ) where
   ])
 
   by_price : search_free T ≡ after (ltb (mark_price T dearer) (mark_price T first_find))
-  unfolding marks_in member count_of records all any tabulate iterate next_in level levels gate_clauses concat out_of node_variables variables node_gates gates select demands clauses open_in take_clause round rounds marks_of walk search same_code place numbered_clauses table_search
+  unfolding marks_in member count_of records all any tabulate iterate next_in level levels gate_clauses concat out_of
+      node_variables variables node_gates gates select demands clauses open_in take_clause round rounds marks_of walk
+      search same_code place numbered_clauses table_search
   by_price = refl
 
   found_price : mark_price T first_find ≡ 0 + 0 + 0 + r + 0
-  unfolding marks_in member records all any tabulate iterate next_in level levels gate_clauses concat out_of node_variables variables node_gates gates select demands clauses open_in take_clause round rounds marks_of walk search same_code place numbered_clauses table_search sum_below
+  unfolding marks_in member records all any tabulate iterate next_in level levels gate_clauses concat out_of
+      node_variables variables node_gates gates select demands clauses open_in take_clause round rounds marks_of walk
+      search same_code place numbered_clauses table_search sum_below
   found_price = refl
 
   dearer_price : mark_price T dearer ≡ 0 + 0 + 0 + r + s
-  unfolding marks_in member records all any tabulate iterate next_in level levels gate_clauses concat out_of node_variables variables node_gates gates select demands clauses open_in take_clause round rounds marks_of walk search same_code place numbered_clauses table_search sum_below
+  unfolding marks_in member records all any tabulate iterate next_in level levels gate_clauses concat out_of
+      node_variables variables node_gates gates select demands clauses open_in take_clause round rounds marks_of walk
+      search same_code place numbered_clauses table_search sum_below
   dearer_price = refl
 
   whole : search_free T ≡ found first_find (mark_price T first_find) 6 1
-  unfolding marks_in member records all any tabulate iterate next_in level levels gate_clauses concat out_of node_variables variables node_gates gates select demands clauses open_in take_clause round rounds marks_of walk search same_code place numbered_clauses table_search
-  whole = by_price ∙ ap after (le-ltb (mark_price T dearer) (mark_price T first_find) (no_less _ _ r s found_price dearer_price))
+  unfolding marks_in member records all any tabulate iterate next_in level levels gate_clauses concat out_of
+      node_variables variables node_gates gates select demands clauses open_in take_clause round rounds marks_of walk
+      search same_code place numbered_clauses table_search
+  whole =
+      by_price
+      ∙ ap after (le-ltb (mark_price T dearer) (mark_price T first_find) (no_less _ _ r s found_price dearer_price))
 
   its_list : list_of T first_find ≡ 1 ∷ 1 ∷ 0 ∷ 1 ∷ []
-  unfolding marks_in member records all any tabulate iterate next_in level levels gate_clauses concat out_of node_variables variables node_gates gates select demands clauses open_in take_clause round rounds marks_of walk search same_code place numbered_clauses table_search
+  unfolding marks_in member records all any tabulate iterate next_in level levels gate_clauses concat out_of
+      node_variables variables node_gates gates select demands clauses open_in take_clause round rounds marks_of walk
+      search same_code place numbered_clauses table_search
   its_list = refl
 
   struck : strike T (1 ∷ 1 ∷ 0 ∷ 1 ∷ []) ≡ 1 ∷ 1 ∷ 0 ∷ 0 ∷ []
-  unfolding member records all any tabulate iterate next_in level levels kept_steps ends_from reached_set strike select same_code
+  unfolding member records all any tabulate iterate next_in level levels kept_steps ends_from reached_set strike select
+      same_code
   struck = refl
 
   is_accepted : table_verdict (priced p q r s) ≡ Ok tt
@@ -120,7 +160,8 @@ module _ (p q r s : ℕ) where
   found_under cap h = right.same_within cap (omega (arith, ap choices free)) ∙ free
 
   spent_under : (cap : ℕ) → cap < 6 → search_under T cap ≡ spent cap 1
-  spent_under cap h = right.spent_over cap (omega (arith, ap choices free)) ∙ ap (λ (o : Outcome). spent cap (settled o)) free
+  spent_under cap h =
+      right.spent_over cap (omega (arith, ap choices free)) ∙ ap (λ (o : Outcome). spent cap (settled o)) free
 
   four : length T.steps ≡ 4
   unfolding records
@@ -130,7 +171,8 @@ module _ (p q r s : ℕ) where
     tests_pass : repair_verdict (priced p q r s) list bytes words ≡ Ok tt
     tests_pass = fits (priced p q r s) list bytes words g
 
-    answered : (o : Outcome) → search_under T cap ≡ o → repair_answer (priced p q r s) cap list bytes words ≡ answer_of o
+    answered : (o : Outcome) → search_under T cap ≡ o
+        → repair_answer (priced p q r s) cap list bytes words ≡ answer_of o
     answered o e = λ j. answer_at (tests_pass j) (e j)
 
     written : (m : Marks) (x c k : ℕ) → search_under T cap ≡ found m x c k

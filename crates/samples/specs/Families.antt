@@ -2,7 +2,8 @@
 use Rattle.std.specs.Prelude.{ℕ, List, [], ◌∷◌, ◌++◌}
 use Rattle.samples.specs.Samples.{finds, finds_none, spends, Case, repaired, judged}
 
--- States 0, which is initial, and 1, with these labels; steps 0 0, 0 1, 1 1 and 1 0, each of price 1; the nodes p0, p1 and the rule.
+-- States 0, which is initial, and 1, with these labels; steps 0 0, 0 1, 1 1 and 1 0, each of price 1; the nodes p0,
+-- p1 and the rule.
 abbrev pub pages : ℕ → ℕ → List ℕ → List ℕ
 pages first second rule =
     (2 ∷ 4 ∷ 3 ∷ 2 ∷ [])
@@ -33,8 +34,9 @@ leaves = 0 ∷ 1 ∷ 1 ∷ 0 ∷ []
 abbrev pub no_stay : List ℕ
 no_stay = 0 ∷ 1 ∷ 1 ∷ 1 ∷ []
 
--- The last two: at a list that has a kept step out of state 1, which is not reached, and whose rule fails, 16 comes before 13.
--- Labels 1 2: p0 at state 0 and p1 at state 1. Labels 0 2: p1 at state 1 alone. Labels 2 0: p1 at state 0 alone.
+-- The last two: at a list that has a kept step out of state 1, which is not reached, and whose rule fails, 16 comes
+-- before 13. Labels 1 2: p0 at state 0 and p1 at state 1. Labels 0 2: p1 at state 1 alone. Labels 2 0: p1 at state 0
+-- alone.
 abbrev pub family_cases : List Case
 family_cases =
     repaired (pages 1 2 (p0_until_p1 10)) 1000000 (finds no_stay no_stay 1 6 0)

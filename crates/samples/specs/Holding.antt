@@ -19,11 +19,15 @@ gives number count (Ok k) = eqb number 0 && eqb k count
 gives number count (Err r) = eqb number (refusal_number r)
 
 unfoldable pub writes : HoldingCase → Bool
-writes c = gives c.number c.count (holding_answer c.table c.list 5) && same_code (holding_buffer c.table c.list (replicate 5 9)) c.after
+writes c =
+    gives c.number c.count (holding_answer c.table c.list 5)
+    && same_code (holding_buffer c.table c.list (replicate 5 9)) c.after
 
 -- three states, of which these are initial; a loop of price 1 at each; rule true
 abbrev pub loops : ℕ → ℕ → ℕ → List ℕ
-loops i j k = (3 ∷ 3 ∷ 1 ∷ 0 ∷ []) ++ (i ∷ 0 ∷ 0 ∷ j ∷ 0 ∷ 0 ∷ k ∷ 0 ∷ 0 ∷ []) ++ (0 ∷ 0 ∷ 1 ∷ 1 ∷ 1 ∷ 1 ∷ 2 ∷ 2 ∷ 1 ∷ []) ++ (1 ∷ 0 ∷ 0 ∷ [])
+loops i j k =
+    (3 ∷ 3 ∷ 1 ∷ 0 ∷ []) ++ (i ∷ 0 ∷ 0 ∷ j ∷ 0 ∷ 0 ∷ k ∷ 0 ∷ 0 ∷ []) ++ (0 ∷ 0 ∷ 1 ∷ 1 ∷ 1 ∷ 1 ∷ 2 ∷ 2 ∷ 1 ∷ [])
+    ++ (1 ∷ 0 ∷ 0 ∷ [])
 
 abbrev pub held : List ℕ → List ℕ → ℕ → List ℕ → HoldingCase
 held table list count after = record { table = table; list = list; number = 0; count = count; after = after }
@@ -34,7 +38,8 @@ refused table list number = record { table = table; list = list; number = number
 abbrev pub all_loops : List ℕ
 all_loops = 1 ∷ 1 ∷ 1 ∷ []
 
--- 01's sheet; then each way to be initial; then an initial state that is not kept, no state kept, and two lists that are refused
+-- The sheet; then each way to be initial; then an initial state that is not kept, no state kept, and two lists that
+-- are refused
 abbrev pub holding_cases : List HoldingCase
 holding_cases =
     held sheet (1 ∷ 1 ∷ 0 ∷ 1 ∷ []) 2 (0 ∷ 1 ∷ 9 ∷ 9 ∷ 9 ∷ [])

@@ -1,3 +1,4 @@
+-- What is promised.
 pub mod Samples
 pub mod Families
 pub mod Prices

@@ -10,10 +10,10 @@ use Rattle.circuit.specs.Variables.{variable_formula}
 use Rattle.closure.specs.Numbered.{same_code}
 use Rattle.search.specs.declared.answer.Answer.{Answer}
 use Rattle.search.specs.declared.answer.Answer.TheVariants.{Found, None, Spent, Refused}
-use Rattle.repair.specs.Outcome.{repair_answer, repair_list}
+use Rattle.repair.specs.Effect.{repair_answer, repair_list}
 
--- What Repair is expected to answer, with its choices and the steps settled before the first. A find is given by a list of its price
--- that strikes to what is written, by what is written, and by the price.
+-- What Repair is expected to answer, with its choices and the steps settled before the first. A find is given by a
+-- list of its price that strikes to what is written, by what is written, and by the price.
 pub data Expected : Type 0 where
   finds : List ℕ → List ℕ → ℕ → ℕ → ℕ → Expected
   finds_none spends : ℕ → ℕ → Expected
@@ -77,7 +77,8 @@ sheet = priced 1 2 3 4
 
 -- one state with this label, step 0 0 of price 5, rule A[p0 V p1]
 abbrev pub loop : ℕ → List ℕ
-loop label = (1 ∷ 1 ∷ 3 ∷ 2 ∷ []) ++ (1 ∷ label ∷ 0 ∷ []) ++ (0 ∷ 0 ∷ 5 ∷ []) ++ (2 ∷ 0 ∷ 0 ∷ 2 ∷ 1 ∷ 0 ∷ 8 ∷ 0 ∷ 1 ∷ [])
+loop label =
+    (1 ∷ 1 ∷ 3 ∷ 2 ∷ []) ++ (1 ∷ label ∷ 0 ∷ []) ++ (0 ∷ 0 ∷ 5 ∷ []) ++ (2 ∷ 0 ∷ 0 ∷ 2 ∷ 1 ∷ 0 ∷ 8 ∷ 0 ∷ 1 ∷ [])
 
 -- states 0 and 1 both initial, labels 1 and 0, steps 0 0 of price 0 and 1 1 of price 255, rule p0
 abbrev pub two_loops : List ℕ

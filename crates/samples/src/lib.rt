@@ -1,4 +1,5 @@
-// Sample tables with their answers, worked out from the definitions: each law is the contract of a function that does nothing.
+// Sample tables with their answers, worked out from the definitions: each law is the contract of a function that does
+// nothing.
 #![tactic(auto)]
 
 ghost use Rattle.std.specs.Prelude.{◌≡◌, true};

@@ -7,10 +7,10 @@ use mathlib.Core.List.Memᴰ
 use mathlib.Core.List.{List, [], ◌∷◌, map, Memᴰ}
 use native.Mathlib.Omega.{arith}
 use lib.ListN.{length, get_or}
-use Rattle.ctl.specs.Levels.{tabulate}
+use Rattle.ctl.specs.Range.{tabulate}
 use Rattle.ctl.proofs.Tabulate.{length_tabulate, get_d_tabulate}
 use Rattle.circuit.specs.Logic.{Literal}
-use Rattle.closure.specs.Closure.{Mark, unknown, known, Marks, mark_at}
+use Rattle.closure.specs.Computed.{Mark, unknown, known, Marks, mark_at}
 use Rattle.search.specs.TableSearch.{bit_of, bytes_of}
 
 -- ---- the list of marks
@@ -49,7 +49,8 @@ pub member_none : (Q : Literal ℕ → Type 0) (l : Literal ℕ) → Memᴰ l []
 member_none Q l i = absurd (Memᴰ.not-nil i)
 
 -- what holds of a literal and of each of P holds of each of both
-pub member_more : (Q : Literal ℕ → Type 0) {k : Literal ℕ} {P : List (Literal ℕ)} → Q k → ((l : Literal ℕ) → Memᴰ l P → Q l)
+pub member_more : (Q : Literal ℕ → Type 0) {k : Literal ℕ} {P : List (Literal ℕ)} → Q k
+    → ((l : Literal ℕ) → Memᴰ l P → Q l)
     → (l : Literal ℕ) → Memᴰ l (k ∷ P) → Q l
 member_more Q one rest l i = ⊎_elim (λ e. rw e one) (rest l) (Memᴰ.cases_cons i)
 

@@ -9,17 +9,16 @@ use lib.ListN.{length}
 use Rattle.table.specs.Table.{Table}
 use Rattle.table.specs.Facts.{Wellformed}
 use Rattle.circuit.specs.Logic.{Literal, opposite}
-use Rattle.circuit.specs.Variables.{Var, step, variables, variable_count}
+use Rattle.circuit.specs.Variables.{Var, step, variables, variable_count, literal}
 use Rattle.circuit.specs.Clauses.{clauses}
 use Rattle.circuit.proofs.Lists.{each_map}
 use Rattle.circuit.proofs.Outputs.{step_variable}
 use Rattle.circuit.proofs.Covered.{clause_variables}
-use Rattle.circuit.proofs.Settled.{Closed}
+use Rattle.circuit.proofs.Settled.{UnitClosed}
 use Rattle.closure.specs.Closure.{Forced, given, unit, Fails}
 use Rattle.closure.specs.Numbered.{numbered_literal, numbered_clauses}
-use Rattle.closure.specs.Inside.{literal}
 use Rattle.closure.specs.Advance.{ForcedBy}
-use Rattle.closure.specs.Given.{Given, Within}
+use Rattle.closure.specs.Given.{Given, VariablesBelow}
 use Rattle.closure.proofs.Forced.{forced_least}
 use Rattle.closure.proofs.Places.{place_step, place_injective, steps_fit}
 use Rattle.search.specs.Fine.{Fine, step_literals}
@@ -29,7 +28,8 @@ abbrev pub ByNumber : Table → (Literal ℕ → Type 0) → Literal Var → Typ
 ByNumber T S l = S (numbered_literal T l)
 
 -- what the numbered clauses force is closed under the unit rule for the clauses
-pub forced_numbered : (T : Table) (P : Literal ℕ → Type 0) → Closed (clauses T) (ByNumber T (Forced (numbered_clauses T) P))
+pub forced_numbered : (T : Table) (P : Literal ℕ → Type 0)
+    → UnitClosed (clauses T) (ByNumber T (Forced (numbered_clauses T) P))
 unfolding numbered_clauses
 forced_numbered T P C c l h alone =
     unit (map (numbered_literal T) C) (Memᴰ.map (map (numbered_literal T)) c) (Memᴰ.map (numbered_literal T) h)
@@ -38,7 +38,7 @@ forced_numbered T P C c l h alone =
 
 module _ (T : Table) where
   -- literals of steps are of variables
-  pub fine_within : {P : List (Literal ℕ)} → Fine (length T.steps) P → Within (variable_count T) P
+  pub fine_within : {P : List (Literal ℕ)} → Fine (length T.steps) P → VariablesBelow (variable_count T) P
   fine_within fine l h = omega (arith, fine.within l h, steps_fit T)
 
   -- a literal of a step has the step's number
@@ -46,10 +46,14 @@ module _ (T : Table) where
   step_number l h = λ i. record { sign = l.sign; var = place_step T l.var h i }
 
   -- literals of variables of the table with the same number are equal
-  same_number : (k l : Literal Var) → Memᴰ k.var (variables T) → Memᴰ l.var (variables T) → numbered_literal T k ≡ numbered_literal T l → k ≡ l
-  same_number k l i j e = λ x. record { sign = (e x).sign; var = place_injective i j (ap (λ (n : Literal ℕ). n.var) e) x }
+  same_number : (k l : Literal Var) → Memᴰ k.var (variables T) → Memᴰ l.var (variables T)
+      → numbered_literal T k ≡ numbered_literal T l → k ≡ l
+  same_number k l i j e = λ x. record {
+    sign = (e x).sign;
+    var = place_injective i j (ap (λ (n : Literal ℕ). n.var) e) x;
+  }
 
-module _ (T : Table) (wf : Wellformed T) (P : List (Literal ℕ)) (within : Within (length T.steps) P) where
+module _ (T : Table) (wf : Wellformed T) (P : List (Literal ℕ)) (within : VariablesBelow (length T.steps) P) where
   -- forced by variables, so by numbers
   to_number : {l : Literal Var} → ForcedBy T (step_literals P) l → ByNumber T (Forced (numbered_clauses T) (Given P)) l
   to_number = forced_least start (forced_numbered T (Given P))
@@ -65,7 +69,8 @@ module _ (T : Table) (wf : Wellformed T) (P : List (Literal ℕ)) (within : With
   Back k = (l : Literal Var) × Memᴰ l.var (variables T) × (numbered_literal T l ≡ k) × ForcedBy T (step_literals P) l
 
   -- of a variable of the table it is that very literal
-  back_same : (l : Literal Var) → Memᴰ l.var (variables T) → Back (numbered_literal T l) → ForcedBy T (step_literals P) l
+  back_same : (l : Literal Var) → Memᴰ l.var (variables T) → Back (numbered_literal T l)
+      → ForcedBy T (step_literals P) l
   back_same l i r = subst (ForcedBy T (step_literals P)) (same_number T r.0 l r.1 i r.2) r.3
 
   -- forced by numbers, so by variables
@@ -75,8 +80,12 @@ module _ (T : Table) (wf : Wellformed T) (P : List (Literal ℕ)) (within : With
     where
       start : (k : Literal ℕ) → Memᴰ k P → Back k
       start k m =
-          let h = within k m in
-          (literal k.sign (step k.var), step_variable T k.var h, step_number T k h, given (Memᴰ.map (λ (k : Literal ℕ). literal k.sign (step k.var)) m))
+          let h = within k m in (
+            literal k.sign (step k.var),
+            step_variable T k.var h,
+            step_number T k h,
+            given (Memᴰ.map (λ (k : Literal ℕ). literal k.sign (step k.var)) m),
+          )
 
       closed : (D : List (Literal ℕ)) → Memᴰ D (map (map (numbered_literal T)) (clauses T)) → (k : Literal ℕ) → Memᴰ k D
           → ((j : Literal ℕ) → Memᴰ j D → ¬ (j ≡ k) → Back (opposite j)) → Back k
@@ -88,7 +97,9 @@ module _ (T : Table) (wf : Wellformed T) (P : List (Literal ℕ)) (within : With
             variable s.0 s.1,
             s.2,
             unit r.0 r.1 s.1 (λ l m other.
-                back_same (opposite l) (variable l m) (alone (numbered_literal T l) (subst (Memᴰ (numbered_literal T l)) r.2 (Memᴰ.map (numbered_literal T) m))
+                back_same (opposite l) (variable l m)
+                (alone (numbered_literal T l)
+                (subst (Memᴰ (numbered_literal T l)) r.2 (Memᴰ.map (numbered_literal T) m))
                 (λ e. other (same_number T l s.0 (variable l m) (variable s.0 s.1) (e ∙ sym s.2))))),
           )
 
@@ -97,7 +108,8 @@ module _ (T : Table) (wf : Wellformed T) (P : List (Literal ℕ)) (within : With
       → ForcedBy T (step_literals P) (literal l.sign (step l.var)) ↔ Forced (numbered_clauses T) (Given P) l
   steps_same l h = (
     λ f. subst (Forced (numbered_clauses T) (Given P)) (step_number T l h) (to_number f),
-    λ f. back_same (literal l.sign (step l.var)) (step_variable T l.var h) (subst Back (sym (step_number T l h)) (from_number f)),
+    λ f. back_same (literal l.sign (step l.var)) (step_variable T l.var h)
+        (subst Back (sym (step_number T l h)) (from_number f)),
   )
 
   -- both fail or neither
@@ -105,5 +117,9 @@ module _ (T : Table) (wf : Wellformed T) (P : List (Literal ℕ)) (within : With
   fails_same = (λ f. (numbered_literal T f.0, to_number f.1, to_number f.2), λ f. back f (from_number f.1))
     where
       back : (f : Fails (numbered_clauses T) (Given P)) → Back f.0 → Fails (clauses T) (λ l. Memᴰ l (step_literals P))
-      back f (l, i, e, forced) =
-          (l, forced, back_same (opposite l) i (from_number (subst (λ (k : Literal ℕ). Forced (numbered_clauses T) (Given P) (opposite k)) (sym e) f.2)))
+      back f (l, i, e, forced) = (
+        l,
+        forced,
+        back_same (opposite l) i
+            (from_number (subst (λ (k : Literal ℕ). Forced (numbered_clauses T) (Given P) (opposite k)) (sym e) f.2)),
+      )

@@ -4,7 +4,7 @@ use native.Mathlib.Decide.{ℕ_discrete}
 use native.Mathlib.Omega.{arith}
 use mathlib.Core.Path.{◌≡◌, refl}
 use mathlib.Core.List.{List, [], ◌∷◌}
-use Rattle.ctl.specs.Levels.{tabulate, below}
+use Rattle.ctl.specs.Range.{tabulate, below}
 
 -- k, .., k + n - 1
 unfoldable pub up_from : ℕ → ℕ → List ℕ
@@ -16,7 +16,8 @@ unfolding tabulate up_from
 tabulate_up_from k zero f h = refl
 tabulate_up_from k (suc n) f h =
     let first : f zero ≡ k = omega (arith, h zero) in
-    let rest : tabulate n (λ i. f (suc i)) ≡ up_from (suc k) n = tabulate_up_from (suc k) n _ (λ i. omega (arith, h (suc i))) in
+    let rest : tabulate n (λ i. f (suc i)) ≡ up_from (suc k) n =
+    tabulate_up_from (suc k) n _ (λ i. omega (arith, h (suc i))) in
     cc
 
 -- the numbers below e, from 0 on

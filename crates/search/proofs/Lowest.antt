@@ -21,7 +21,8 @@ module _ (n : ℕ) (f : ℕ → Bool) where
   pub lowest_here : (j : ℕ) → j < n → ((i : ℕ) → i < j → f i ≡ false) → f j ≡ true → Some j ≡ Lowest
   lowest_here j h before here =
       let same = go (dec_lt (lowest_of n f) j) in
-      ap Some same ∙ ap (λ (b : Bool). then_some b (lowest_of n f)) (sym (lt-ltb (lowest_of n f) n (omega (arith, same))))
+      ap Some same ∙ ap (λ (b : Bool). then_some b (lowest_of n f))
+      (sym (lt-ltb (lowest_of n f) n (omega (arith, same))))
     where
       go : Dec (lowest_of n f < j) → j ≡ lowest_of n f
       go (yes l) = absurd (false≢true (sym (before (lowest_of n f) l) ∙ lowest_of-has n f (omega arith)))
@@ -38,7 +39,8 @@ module _ (n : ℕ) (f : ℕ → Bool) where
 -- ---- what is known of the lowest
 
 -- there is one: it is that, and below n
-pub lowest_some : (n : ℕ) (f : ℕ → Bool) (j : ℕ) → Some j ≡ then_some (ltb (lowest_of n f) n) (lowest_of n f) → (j ≡ lowest_of n f) × (j < n)
+pub lowest_some : (n : ℕ) (f : ℕ → Bool) (j : ℕ) → Some j ≡ then_some (ltb (lowest_of n f) n) (lowest_of n f)
+    → (j ≡ lowest_of n f) × (j < n)
 lowest_some n f j e = go (ltb (lowest_of n f) n) refl e
   where
     go : (b : Bool) → ltb (lowest_of n f) n ≡ b → Some j ≡ then_some b (lowest_of n f) → (j ≡ lowest_of n f) × (j < n)

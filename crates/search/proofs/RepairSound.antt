@@ -1,4 +1,5 @@
--- A repair that agrees with literals is a model above them: it has each bit that their closure knows, and none agrees where they clash.
+-- A repair that agrees with literals is a model above them: it has each bit that their closure knows, and none agrees
+-- where they clash.
 use Prim.Native.Nat.{ℕ, zero, suc, ◌≤◌, ◌<◌}
 use native.Mathlib.Omega.{arith}
 use mathlib.Core.Path.{◌≡◌, refl, sym, ap, ◌∙◌}
@@ -15,7 +16,7 @@ use Rattle.circuit.proofs.Distinct.{step_first}
 use Rattle.circuit.proofs.Models.{repair_is_model}
 use Rattle.closure.specs.Closure.{Forced, Fails}
 use Rattle.closure.specs.Numbered.{numbered_clauses}
-use Rattle.closure.specs.Given.{Given, Within}
+use Rattle.closure.specs.Given.{Given, VariablesBelow}
 use Rattle.closure.proofs.Forced.{forced_sound, fails_no_model}
 use Rattle.search.proofs.Agree.{AgreesAll}
 use Rattle.closure.proofs.Models.{on_numbers, model_numbered}
@@ -35,7 +36,7 @@ sign_bit (suc (suc b)) h = absurd (omega arith)
 
 -- ---- the model of a repair
 
-module _ (T : Table) (wf : Wellformed T) (P : List (Literal ℕ)) (within : Within (length T.steps) P)
+module _ (T : Table) (wf : Wellformed T) (P : List (Literal ℕ)) (within : VariablesBelow (length T.steps) P)
     (list : List ℕ) (repair : Repair T list) (agrees : AgreesAll list P) where
   α : Var → Bool
   α = (repair_is_model T wf list repair).0
@@ -60,8 +61,10 @@ module _ (T : Table) (wf : Wellformed T) (P : List (Literal ℕ)) (within : With
   repair_no_fail = fails_no_model β satisfied above
 
   -- the repair has the bit of each forced literal of a step
-  pub repair_forced : (j : ℕ) (x : Bool) → j < length T.steps → Forced (numbered_clauses T) (Given P) (record { sign = x; var = j })
+  pub repair_forced : (j : ℕ) (x : Bool) → j < length T.steps
+      → Forced (numbered_clauses T) (Given P) (record { sign = x; var = j })
       → get_or list j 0 ≡ cond x 1 0
   repair_forced j x h f =
       let sign : eqb (get_or list j 0) 1 ≡ x = sym (says j h) ∙ forced_sound β satisfied above f in
-      sign_bit (get_or list j 0) (repair.form.bits j (omega (arith, repair.form.size))) ∙ ap (λ (b : Bool). cond b 1 0) sign
+      sign_bit (get_or list j 0) (repair.form.bits j (omega (arith, repair.form.size)))
+      ∙ ap (λ (b : Bool). cond b 1 0) sign

@@ -7,7 +7,7 @@ use Rattle.table.specs.Table.{Table}
 use Rattle.table.specs.Facts.{Wellformed}
 use Rattle.ctl.proofs.Tabulate.{length_tabulate}
 use Rattle.circuit.specs.Variables.{variable_count}
-use Rattle.closure.specs.Closure.{closure, settled_below}
+use Rattle.closure.specs.Computed.{closure, settled_below}
 use Rattle.closure.specs.Settled.{SettledCount}
 use Rattle.closure.specs.Numbered.{numbered_clauses}
 use Rattle.search.specs.Search.{uncapped, walk_all, search}
@@ -18,7 +18,7 @@ use Rattle.search.proofs.Cheapest.{search_none, search_found}
 use Rattle.search.proofs.StepClosure.{clash_exact, mark_exact, settled_right}
 use Rattle.search.proofs.ClosureRight.{closure-is_right}
 use Rattle.search.proofs.PriceRight.{price_is_right}
-use Rattle.ctl.specs.Levels.{below}
+use Rattle.ctl.specs.Range.{below}
 
 -- the number that it carries is that of the closure of nothing
 settled_first : (T : Table) → Wellformed T → SettledCount T [] (settled (search_free T))
@@ -27,7 +27,8 @@ settled_first T wf =
     let close = closure (variable_count T) (numbered_clauses T) in
     let steps = below (length T.steps) in
     subst (SettledCount T [])
-    (sym (settled_given (settled_below (length steps) (close [])) (walk_all uncapped close (mark_price T) steps) ∙ ap (λ (e : ℕ). settled_below e (close [])) (length_tabulate (length T.steps) (λ k. k))))
+    (sym (settled_given (settled_below (length steps) (close [])) (walk_all uncapped close (mark_price T) steps)
+    ∙ ap (λ (e : ℕ). settled_below e (close [])) (length_tabulate (length T.steps) (λ k. k))))
     (settled_right T wf [] (closure-is_right T wf).fine_none)
 
 -- The search finds the cheapest repair, the first in rank of those, or that there is none, and is cut at each cap.

@@ -1,4 +1,4 @@
--- Marks that a closure reaches and that settle every step are a model of the clauses, and the list that they give is a repair.
+-- Marks of a closure that settle every step are a model of the clauses, and the list that they give is a repair.
 use Prim.Native.Nat.{ℕ, ◌<◌}
 use native.Mathlib.Omega.{arith}
 use mathlib.Core.Path.{◌≡◌, refl, sym, ap, subst, ◌∙◌}
@@ -18,9 +18,10 @@ use Rattle.circuit.proofs.Covered.{clause_variables}
 use Rattle.circuit.proofs.Settled.{variables_settled}
 use Rattle.circuit.specs.Exact.{Agrees}
 use Rattle.circuit.proofs.Models.{model_is_repair}
-use Rattle.closure.specs.Closure.{Forced, Mark, Marks, unknown, known, mark_at, is_known, marked, closure}
+use Rattle.closure.specs.Closure.{Forced}
+use Rattle.closure.specs.Computed.{Mark, Marks, unknown, known, mark_at, is_known, marked, closure}
 use Rattle.closure.specs.Numbered.{place, numbered_literal, numbered_clauses}
-use Rattle.closure.specs.Given.{Given, Within, Consistent}
+use Rattle.closure.specs.Given.{Given, VariablesBelow, Consistent}
 use Rattle.search.specs.TableSearch.{bit_of, bytes_of}
 use Rattle.closure.proofs.Forced.{Occurs, settled_models}
 use Rattle.closure.proofs.Marks.{Holds, literal_path, holds_once}
@@ -57,37 +58,41 @@ saying m n = eqb (bit_of (mark_at m n)) 1
 saying_held : (m : Marks) (l : Literal ℕ) → Holds m l → Makes (saying m) l
 saying_held m l h = ap (λ (x : Mark). eqb (bit_of x) 1) h ∙ bit_sign l.sign
 
-module _ (T : Table) (wf : Wellformed T) (P : List (Literal ℕ)) (consistent : Consistent P) (within : Within (variable_count T) P)
-    {m : Marks} {b : Bool} (reached : closure (variable_count T) (numbered_clauses T) P ≡ marked m b)
+module _ (T : Table) (wf : Wellformed T) (P : List (Literal ℕ)) (consistent : Consistent P)
+    (within : VariablesBelow (variable_count T) P)
+    {m : Marks} {b : Bool} (closed : closure (variable_count T) (numbered_clauses T) P ≡ marked m b)
     (settled : (j : ℕ) → j < length T.steps → is_known (mark_at m j) ≡ true) where
-  abbrev Reached : Literal ℕ → Type 0
-  Reached = Forced (numbered_clauses T) (Given P)
+  abbrev InClosure : Literal ℕ → Type 0
+  InClosure = Forced (numbered_clauses T) (Given P)
 
-  held : {l : Literal ℕ} → Reached l → Holds m l
-  held = forced_held (variable_count T) (numbered_clauses T) P (numbered_inside T wf) consistent within reached
+  held : {l : Literal ℕ} → InClosure l → Holds m l
+  held = forced_held (variable_count T) (numbered_clauses T) P (numbered_inside T wf) consistent within closed
 
   -- each variable of the table is settled
-  variable_reached : (v : Var) → Memᴰ v (variables T) → ByNumber T Reached (pos v) ⊎ ByNumber T Reached (neg v)
-  variable_reached = variables_settled T wf (ByNumber T Reached) (forced_numbered T (Given P)) (λ j h.
+  variable_in_closure : (v : Var) → Memᴰ v (variables T) → ByNumber T InClosure (pos v) ⊎ ByNumber T InClosure (neg v)
+  variable_in_closure = variables_settled T wf (ByNumber T InClosure) (forced_numbered T (Given P)) (λ j h.
       rw (place_step T j h) (⊎_map
-      (held_forced (variable_count T) (numbered_clauses T) P reached (pos j))
-      (held_forced (variable_count T) (numbered_clauses T) P reached (neg j))
+      (held_forced (variable_count T) (numbered_clauses T) P closed (pos j))
+      (held_forced (variable_count T) (numbered_clauses T) P closed (neg j))
       (known_cases (mark_at m j) (settled j h))))
 
-  -- a literal that the marks make true is reached, where one of its variable is
-  true_reached : (l : Literal ℕ) (s : Bool) → Reached (record { sign = s; var = l.var }) → Makes (saying m) l → Reached l
-  true_reached l s r t = subst Reached (literal_path _ l (sym (saying_held m _ (held r)) ∙ t) refl) r
+  -- a literal that the marks make true is in the closure, where one of its variable is
+  true_in_closure : (l : Literal ℕ) (s : Bool) → InClosure (record { sign = s; var = l.var }) → Makes (saying m) l
+      → InClosure l
+  true_in_closure l s r t = subst InClosure (literal_path _ l (sym (saying_held m _ (held r)) ∙ t) refl) r
 
   marks_model : Satisfies (saying m) (numbered_clauses T)
   marks_model = settled_models (saying m) (numbered_nonempty T wf)
       (λ f. holds_once m f.0 (held f.1) (held f.2))
       (λ l o t.
       let r = occurs_place T wf l.var o in
-      ⊎_elim (λ i. true_reached l true (rw r.2 at i) t) (λ i. true_reached l false (rw r.2 at i) t) (variable_reached r.0 r.1))
+      ⊎_elim (λ i. true_in_closure l true (rw r.2 at i) t) (λ i. true_in_closure l false (rw r.2 at i) t)
+      (variable_in_closure r.0 r.1))
 
   -- the list of the marks is a repair
   pub settled_repair : Repair T (bytes_of (length T.steps) m)
-  settled_repair = model_is_repair T wf (bytes_of e m) form (on_variables T (saying m)) agrees (numbered_model T (saying m) marks_model)
+  settled_repair = model_is_repair T wf (bytes_of e m) form (on_variables T (saying m)) agrees
+      (numbered_model T (saying m) marks_model)
     where
       e : ℕ
       e = length T.steps

@@ -7,7 +7,7 @@ use mathlib.Core.List.{List, [], ◌∷◌, Memᴰ}
 use lib.ListN.{length, get_or}
 use lib.Seq.{ext_get_or}
 use Rattle.circuit.specs.Logic.{Literal}
-use Rattle.closure.specs.Closure.{known, Marks, mark_at, is_known, Progress, marked}
+use Rattle.closure.specs.Computed.{known, Marks, mark_at, is_known, Progress, marked}
 use Rattle.closure.proofs.Marks.{known_of, unknown_at}
 use Rattle.search.proofs.InOrder.{below_suc}
 use Rattle.search.specs.TableSearch.{bit_of, bytes_of}
@@ -27,14 +27,28 @@ module _ {e : ℕ} {Model : List ℕ → Type 0} {close : List (Literal ℕ) →
   -- at the start
   pub stands_first : (m : Marks) (b : Bool) → close [] ≡ marked m b → Stands 0 [] m
   stands_first m b c =
-      record { new = b; fine = right.fine_none; closed = c; held = member_none _; settled = λ j h. absurd (omega arith) }
+      record {
+        new = b;
+        fine = right.fine_none;
+        closed = c;
+        held = member_none _;
+        settled = λ j h. absurd (omega arith);
+      }
 
   -- past a settled step
-  pub stands_next : {k : ℕ} {P : List (Literal ℕ)} {m : Marks} → Stands k P m → is_known (mark_at m k) ≡ true → Stands (suc k) P m
+  pub stands_next : {k : ℕ} {P : List (Literal ℕ)} {m : Marks} → Stands k P m → is_known (mark_at m k) ≡ true
+      → Stands (suc k) P m
   stands_next {m} s i =
-      record { new = s.new; fine = s.fine; closed = s.closed; held = s.held; settled = below_suc (λ j. is_known (mark_at m j) ≡ true) s.settled i }
+      record {
+        new = s.new;
+        fine = s.fine;
+        closed = s.closed;
+        held = s.held;
+        settled = below_suc (λ j. is_known (mark_at m j) ≡ true) s.settled i;
+      }
 
-  module _ {k : ℕ} {P : List (Literal ℕ)} {m : Marks} (s : Stands k P m) (inside : k < e) (i : is_known (mark_at m k) ≡ false) (sign : Bool) where
+  module _ {k : ℕ} {P : List (Literal ℕ)} {m : Marks} (s : Stands k P m) (inside : k < e)
+      (i : is_known (mark_at m k) ≡ false) (sign : Bool) where
     -- an unsettled step may be chosen
     pub fine_choice : Fine (record { sign = sign; var = k } ∷ P)
     fine_choice = right.fine_more s.fine s.closed k sign inside (unknown_at m k i)
@@ -63,7 +77,8 @@ module _ {e : ℕ} {Model : List ℕ → Type 0} {close : List (Literal ℕ) →
             ap is_known (still j r.0 (omega arith) r.1)
 
   -- the models that agree with P agree with each other below k
-  pub settled_same : {k : ℕ} {P : List (Literal ℕ)} {m : Marks} → Stands k P m → k ≤ e → (l l' : List ℕ) → Among Model P l → Among Model P l'
+  pub settled_same : {k : ℕ} {P : List (Literal ℕ)} {m : Marks} → Stands k P m → k ≤ e → (l l' : List ℕ)
+      → Among Model P l → Among Model P l'
       → (j : ℕ) → j < k → get_or l j 0 ≡ get_or l' j 0
   settled_same {P} {m} s inside l l' a a' j h = bit l a ∙ sym (bit l' a')
     where
@@ -81,7 +96,8 @@ module _ {e : ℕ} {Model : List ℕ → Type 0} {close : List (Literal ℕ) →
   )
 
   -- and there is no other
-  pub settled_only : {P : List (Literal ℕ)} {m : Marks} → Stands e P m → (list : List ℕ) → Among Model P list → list ≡ bytes_of e m
+  pub settled_only : {P : List (Literal ℕ)} {m : Marks} → Stands e P m → (list : List ℕ) → Among Model P list
+      → list ≡ bytes_of e m
   settled_only {P} {m} s list a =
       let size : length list ≡ e = right.model_size list a.0 in
       ext_get_or 0 list (bytes_of e m) (size ∙ sym (length-bytes_of e m))

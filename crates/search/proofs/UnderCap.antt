@@ -20,7 +20,10 @@ module _ (T : Table) (wf : Wellformed T) (cap : ℕ) where
   under_cap C cut whole =
       elim (dec_lt cap (choices (search_free T))) [
         | yes over ↦ subst C (sym (right.spent_over cap over)) (cut over)
-        | no not-over ↦ (let within : choices (search_free T) ≤ cap = omega (arith, not-over) in subst C (sym (right.same_within cap within)) (whole within))
+        | no not-over ↦ (let within : choices (search_free T) ≤ cap = omega (
+          arith,
+          not-over,
+        ) in subst C (sym (right.same_within cap within)) (whole within))
       ]
 
   -- either way it carries the same number of settled steps

@@ -2,16 +2,15 @@
 use Rattle.std.specs.Prelude.{ℕ, List, map}
 use Rattle.table.specs.Table.{Table}
 use Rattle.circuit.specs.Logic.{Literal}
-use Rattle.circuit.specs.Variables.{Var, step, variable_count}
-use Rattle.closure.specs.Closure.{Progress, closure}
+use Rattle.circuit.specs.Variables.{Var, step, variable_count, literal}
+use Rattle.closure.specs.Computed.{Progress, closure}
 use Rattle.closure.specs.Numbered.{numbered_clauses}
-use Rattle.closure.specs.Inside.{literal}
-use Rattle.closure.specs.Given.{Within, Consistent}
+use Rattle.closure.specs.Given.{VariablesBelow, Consistent}
 
 -- the literals may be chosen: they are of steps, and no two of them contradict each other
 pub record Fine (e : ℕ) (P : List (Literal ℕ)) : Type 0 where
   pub consistent : Consistent P
-  pub within : Within e P
+  pub within : VariablesBelow e P
 
 abbrev pub closure_of : Table → List (Literal ℕ) → Progress
 closure_of T = closure (variable_count T) (numbered_clauses T)

@@ -1,8 +1,11 @@
+-- To be believed: what the promises speak of.
 pub mod Search
 pub mod TableSearch
-pub mod Right
-pub mod Counted
 pub mod Answer
-pub mod StepRows
 pub mod Fine
+-- What is promised.
+pub mod Right
+pub mod NextCount
+-- What contracts between functions and proofs speak of; no promise does.
+pub mod StepRows
 pub mod Finds

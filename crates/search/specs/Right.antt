@@ -7,10 +7,10 @@ use Rattle.ctl.specs.Kept.{Repair}
 use Rattle.ctl.specs.Rank.{Cheapest}
 use Rattle.ctl.specs.Price.{list_price}
 use Rattle.circuit.specs.Logic.{Literal}
-use Rattle.circuit.specs.Variables.{step}
+use Rattle.circuit.specs.Variables.{step, literal}
 use Rattle.circuit.specs.Clauses.{clauses}
-use Rattle.closure.specs.Closure.{Forced, Fails, Marks, mark_at, known, clash, marked}
-use Rattle.closure.specs.Inside.{literal}
+use Rattle.closure.specs.Closure.{Forced, Fails}
+use Rattle.closure.specs.Computed.{Marks, mark_at, known, clash, marked}
 use Rattle.closure.specs.Settled.{SettledCount}
 use Rattle.search.specs.Search.{Outcome, found, none, spent}
 use Rattle.search.specs.Fine.{Fine, closure_of, step_literals}
@@ -29,11 +29,12 @@ settled (none c k) = k
 settled (spent c k) = k
 
 pub record SearchIsRight (T : Table) : Type 0 where
-  -- without a cap: never spent; none exactly when no list is a repair; what is found is a repair that no other undercuts, with its price, and every
-  -- other repair of that price ranks after it
+  -- without a cap: never spent; none exactly when no list is a repair; what is found is a repair that no other
+  -- undercuts, with its price, and every other repair of that price ranks after it
   pub unspent : (c k : ℕ) → ¬ (search_free T ≡ spent c k)
   pub none_exact : ((c : ℕ) × (k : ℕ) × (search_free T ≡ none c k)) ↔ ((list : List ℕ) → ¬ Repair T list)
-  pub found_cheapest : (m : Marks) (p c k : ℕ) → search_free T ≡ found m p c k → Cheapest (list_price T) (Repair T) (list_of T m) × (p ≡ list_price T (list_of T m))
+  pub found_cheapest : (m : Marks) (p c k : ℕ) → search_free T ≡ found m p c k
+      → Cheapest (list_price T) (Repair T) (list_of T m) × (p ≡ list_price T (list_of T m))
   -- under a cap: spent, with the cap, exactly when the search without one makes more choices; else the same answer
   pub spent_over : (cap : ℕ) → cap < choices (search_free T) → search_under T cap ≡ spent cap (settled (search_free T))
   pub same_within : (cap : ℕ) → choices (search_free T) ≤ cap → search_under T cap ≡ search_free T

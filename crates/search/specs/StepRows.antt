@@ -3,7 +3,7 @@ use Rattle.std.specs.Prelude.{ℕ, Bool, true, false, cond, not, ◌||◌, List,
 use Rattle.std.specs.Bool.{then_some}
 use Rattle.sets.specs.Member.{member, set_of, lowest_of}
 use Rattle.table.specs.Table.{Table, step_at}
-use Rattle.ctl.specs.Levels.{tabulate}
+use Rattle.ctl.specs.Range.{tabulate}
 use Rattle.ctl.specs.Price.{struck_price}
 use Rattle.rows.specs.Steps.{word_of, step_bit, step_settled}
 

@@ -3,9 +3,9 @@ use Rattle.std.specs.Prelude.{ℕ, Bool, false, not, cond, List, map, length}
 use Rattle.table.specs.Table.{Table}
 use Rattle.circuit.specs.Logic.{Literal}
 use Rattle.circuit.specs.Variables.{variable_count}
-use Rattle.ctl.specs.Levels.{below}
+use Rattle.ctl.specs.Range.{below}
 use Rattle.ctl.specs.Price.{struck_price}
-use Rattle.closure.specs.Closure.{Mark, Marks, unknown, known, mark_at, closure}
+use Rattle.closure.specs.Computed.{Mark, Marks, unknown, known, mark_at, closure}
 use Rattle.closure.specs.Numbered.{numbered_clauses}
 use Rattle.search.specs.Search.{Outcome, search, capped, uncapped}
 

@@ -1,10 +1,8 @@
 // The answer of Repair.
-ghost use Rattle.std.specs.Prelude.{◌≡◌};
-
 use table::Refusal;
 
-/// What Repair answers. What was found has its price; found, none and spent carry the choices made and how many steps the closure of
-/// nothing settles; refused carries which refusal. The list that was found stands in its lent buffer.
+/// What Repair answers. What was found has its price; found, none and spent carry the choices made and how many steps
+/// the closure of nothing settles; refused carries which refusal. The list that was found stands in its lent buffer.
 #[derive(Clone, Copy, Debug, PartialEq, Eq)]
 pub enum Answer {
     Found {
@@ -21,14 +19,4 @@ pub enum Answer {
         settled: u32,
     },
     Refused(Refusal),
-}
-
-impl From<Refusal> for Answer {
-    ghost use Rattle.search.specs.declared.answer.Answer.TheVariants.{Refused};
-
-    ghost from_gives = { λ refusal answer. answer ≡ Refused refusal };
-
-    fn from(refusal: Refusal) -> Answer {
-        Answer::Refused(refusal)
-    }
 }

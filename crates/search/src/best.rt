@@ -4,23 +4,24 @@ ghost use Rattle.search.specs.Finds.{beats};
 
 use crate::choices::Choices;
 
-// All of it was tried: the price of the cheapest find, if there is one, and the record of choices as it is by then. The
-// find's list stands in a buffer of the search's own, which goes from try to try beside the price: the price by value, as
-// in the definitions, the list in place. In one struct it would be copied at each call, or lent with a price before and
-// after. The caller's list is written once the search has ended.
+// The find's list stands in a buffer of the search's own, which goes from try to try beside the price: the price by
+// value, as in the definitions, the list in place. In one struct it would be copied at each call, or lent with a price
+// before and after. The caller's list is written once the search has ended.
+
+/// All of it was tried: the price of the cheapest find, if there is one, and the record of choices as it is by then.
 #[derive(Clone, Copy)]
 pub struct Passed {
     pub best: Option<u32>,
     pub choices: Choices,
 }
 
-// The cap was reached: the record of choices as it is by then.
+/// The cap was reached: the record of choices as it is by then.
 #[derive(Clone, Copy)]
 pub struct Cut {
     pub choices: Choices,
 }
 
-// Whether steps of this price may still lead to a cheaper find.
+/// Whether steps of this price may still lead to a cheaper find.
 pub fn undercuts(price: u32, best: Option<u32>) -> bool
     ensures { result ≡ beats price best }
 {

@@ -1,8 +1,11 @@
 // The record of choices: how many were made, and how many may be.
 ghost use Rattle.std.specs.Prelude.{◌≡◌, ◌≤◌};
-ghost use Rattle.search.specs.Counted.{counted};
+ghost use Rattle.search.specs.NextCount.{next_count};
 
-// That `made` is at most the cap is asked, and is no ghost field: the definition of the next count makes the same struct, and would have to prove it.
+// That `made` is at most the cap is asked, and is no ghost field: the definition of the next count makes the same
+// struct, and would have to prove it.
+
+/// How many choices were made, and how many may be made at most.
 #[derive(Clone, Copy)]
 pub struct Choices {
     pub made: u64,
@@ -10,10 +13,10 @@ pub struct Choices {
 }
 
 impl Choices {
-    // The record with one choice more; none at the cap.
+    /// The record with one choice more; none at the cap.
     pub fn step(self) -> Option<Choices>
         requires { self.made ≤ self.cap }
-        ensures { result ≡ counted self }
+        ensures { result ≡ next_count self }
     {
         if self.made == self.cap {
             return None;

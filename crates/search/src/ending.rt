@@ -7,8 +7,11 @@ use crate::answer::Answer;
 use crate::best::{Cut, Passed};
 use table::Accepted;
 
-// The cheapest find is written, where there is one and the cap was not reached. The caller's list may be longer than the steps; that it is long
-// enough is asked, here, of `write_list` and of those who hand the list on: a struct of table and list would only be taken apart again.
+// That the caller's list is long enough is asked, here, of `write_list` and of those who hand the list on: a struct of
+// table and list would only be taken apart again.
+
+/// The answer. The cheapest find, a byte for each step, is written to the front of the caller's list, where there is
+/// one and the cap was not reached.
 pub fn finish(
     table: &Accepted<'_>,
     walked: Result<Passed, Cut>,
@@ -16,7 +19,8 @@ pub fn finish(
     find: &[u8],
     list: &mut [u8],
 ) -> Answer
-    requires { (length (table_of table.now.bytes.now).steps ≤ length find.now) × (length (table_of table.now.bytes.now).steps ≤ length list.old) }
+    requires { (length (table_of table.now.bytes.now).steps ≤ length find.now)
+        × (length (table_of table.now.bytes.now).steps ≤ length list.old) }
     ensures value { result ≡ finished settled walked }
     ensures list_after { list.new ≡ written (length (table_of table.now.bytes.now).steps) walked find.now list.old }
 {

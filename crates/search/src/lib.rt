@@ -1,4 +1,5 @@
-// The search for the cheapest repair, and the first in rank of those: its definition, and what the code of the tries is made of.
+// The search for the cheapest repair, and the first in rank of those: its definition, and what the code of the tries
+// is made of.
 #![tactic(auto)]
 
 mod answer;

@@ -18,7 +18,8 @@ unfolding set_of
 collect_out i f e = sym (rw (add-one i) (ap (λ (b : Bool). set_of i f + cond b (2 ^ i) 0) e ∙ add-zero (set_of i f)))
 
 -- a state with f is put into the set
-pub collect_in : (i : ℕ) (f : ℕ → Bool) → i < 32 → f i ≡ true → set_of 32 (λ t. member (set_of i f) t || eqb t i) ≡ set_of (i + 1) f
+pub collect_in : (i : ℕ) (f : ℕ → Bool) → i < 32 → f i ≡ true
+    → set_of 32 (λ t. member (set_of i f) t || eqb t i) ≡ set_of (i + 1) f
 collect_in i f h e = sym (set_of_unique 32 _ (set_of (i + 1) f) small same)
   where
     small : set_of (i + 1) f < 2 ^ 32
@@ -34,10 +35,13 @@ collect_in i f h e = sym (set_of_unique 32 _ (set_of (i + 1) f) small same)
         other (no l) = simp (le-ltb s (i + 1) (omega (arith, d, l)), le-ltb s i (omega (arith, l)), ne_eqb s i d)
 
     same : (s : ℕ) → s < 32 → member (set_of (i + 1) f) s ≡ (member (set_of i f) s || eqb s i)
-    same s l = member-set_of (i + 1) f s ∙ at_state s (ℕ_discrete s i) ∙ ap (λ (b : Bool). b || eqb s i) (sym (member-set_of i f s))
+    same s l =
+        member-set_of (i + 1) f s ∙ at_state s (ℕ_discrete s i)
+        ∙ ap (λ (b : Bool). b || eqb s i) (sym (member-set_of i f s))
 
 -- one state after the other, each with the test's answer
-pub collect : (i : ℕ) (f : ℕ → Bool) (m : ℕ) (b : Bool) → i < 32 → m ≡ set_of i f → b ≡ f i → set_of 32 (λ t. member m t || (b && eqb t i)) ≡ set_of (i + 1) f
+pub collect : (i : ℕ) (f : ℕ → Bool) (m : ℕ) (b : Bool) → i < 32 → m ≡ set_of i f → b ≡ f i
+    → set_of 32 (λ t. member m t || (b && eqb t i)) ≡ set_of (i + 1) f
 collect i f m true h e p =
     ap (λ (k : ℕ). set_of 32 (λ t. member k t || eqb t i)) e
     ∙ collect_in i f h (sym p)

@@ -1,8 +1,19 @@
--- The members of sets that are numbers: of the operations on bits, of powers of two, and two sets with the same members.
+-- The members of sets that are numbers: of the operations on bits, of powers of two, and two sets with the same
+-- members.
 use mathlib.Core.Path.{◌≡◌, refl, sym, ap, ap₂, ◌∙◌}
 use mathlib.Core.Bool.{Bool, true, false, cond, not, ◌&&◌, ◌||◌, and-true, false≢true}
 use Prim.Native.Nat.{ℕ, zero, suc, ◌+◌, ◌-◌, ◌*◌, ◌/◌, ◌%◌, ◌^◌, ◌≤◌, ◌<◌}
-use native.Mathlib.Nat.{div-one, zero-div, pow-suc, pow-succ', div-div-eq-div-mul, div-eq_of_lt, mod-lt, lt_of_lt_of_le, zero-lt-suc}
+use native.Mathlib.Nat.{
+  div-one,
+  zero-div,
+  pow-suc,
+  pow-succ',
+  div-div-eq-div-mul,
+  div-eq_of_lt,
+  mod-lt,
+  lt_of_lt_of_le,
+  zero-lt-suc,
+}
 use native.Mathlib.Decide.{dec_lt}
 use native.Mathlib.Omega.{arith}
 use borrow.Author.Tests.{eq-eqb, ne_eqb, eqb-true, eqb-false}
@@ -19,7 +30,8 @@ member_low m = ap (λ (x : ℕ). eqb (x % 2) 1) (div-one m)
 -- a later state is in a set when the state before it is in its half
 pub member_next : (m s : ℕ) → member m (suc s) ≡ member (m / 2) s
 unfolding member
-member_next m s = ap (λ (x : ℕ). eqb (x % 2) 1) (ap (λ (x : ℕ). m / x) (pow-succ' 2 s) ∙ sym (div-div-eq-div-mul m 2 (2 ^ s)))
+member_next m s =
+    ap (λ (x : ℕ). eqb (x % 2) 1) (ap (λ (x : ℕ). m / x) (pow-succ' 2 s) ∙ sym (div-div-eq-div-mul m 2 (2 ^ s)))
 
 -- no state is in 0
 pub member-zero : (s : ℕ) → member 0 s ≡ false
@@ -72,7 +84,8 @@ pub member_power : (t s : ℕ) → member (2 ^ t) s ≡ eqb s t
 member_power zero zero = member_low 1
 member_power zero (suc s) = member_next 1 s ∙ member-zero s ∙ sym (eqb-suc-zero s)
 member_power (suc t) zero =
-    ap (λ (x : ℕ). member x zero) (pow-suc 2 t) ∙ member_low (2 ^ t * 2) ∙ ne_eqb (2 ^ t * 2 % 2) 1 (omega arith) ∙ sym (eqb-zero-suc t)
+    ap (λ (x : ℕ). member x zero) (pow-suc 2 t) ∙ member_low (2 ^ t * 2) ∙ ne_eqb (2 ^ t * 2 % 2) 1 (omega arith)
+    ∙ sym (eqb-zero-suc t)
 member_power (suc t) (suc s) =
     member_next (2 ^ suc t) s
     ∙ ap (λ (x : ℕ). member x s) (omega (arith, pow-suc 2 t))

@@ -68,11 +68,13 @@ pub set_of_cong : (n : ℕ) (f g : ℕ → Bool) → ((s : ℕ) → s < n → f 
 unfolding set_of
 set_of_cong zero f g same = refl
 set_of_cong (suc n) f g same =
-    ap₂ (λ (x : ℕ) (b : Bool). x + cond b (2 ^ n) 0) (set_of_cong n f g (λ s h. same s (omega arith))) (same n (omega arith))
+    ap₂ (λ (x : ℕ) (b : Bool). x + cond b (2 ^ n) 0) (set_of_cong n f g (λ s h. same s (omega arith)))
+    (same n (omega arith))
 
 -- a number of n bits whose members are those with the property is the set of them
 pub set_of_unique : (n : ℕ) (f : ℕ → Bool) (m : ℕ) → m < 2 ^ n → ((s : ℕ) → s < n → member m s ≡ f s) → m ≡ set_of n f
-set_of_unique n f m h same = ext n m (set_of n f) h (set_of-lt n f) (λ s l. same s l ∙ sym (member-set_of-below n f s l))
+set_of_unique n f m h same =
+    ext n m (set_of n f) h (set_of-lt n f) (λ s l. same s l ∙ sym (member-set_of-below n f s l))
 
 -- a set is the set of its members
 pub set_of-member : (w m : ℕ) → m < 2 ^ w → set_of w (member m) ≡ m
@@ -100,7 +102,8 @@ pub count_of_cong : (n : ℕ) (f g : ℕ → Bool) → ((s : ℕ) → s < n → 
 unfolding count_of
 count_of_cong zero f g same = refl
 count_of_cong (suc n) f g same =
-    ap₂ (λ (x : ℕ) (b : Bool). x + cond b 1 0) (count_of_cong n f g (λ s h. same s (omega arith))) (same n (omega arith))
+    ap₂ (λ (x : ℕ) (b : Bool). x + cond b 1 0) (count_of_cong n f g (λ s h. same s (omega arith)))
+    (same n (omega arith))
 
 one_le : (a b : Bool) → (a ≡ true → b ≡ true) → cond a 1 0 ≤ cond b 1 0
 one_le true true h = omega arith
@@ -117,12 +120,16 @@ module _ (f g : ℕ → Bool) where
       omega (arith, one_le (g n) (f n) (sub n (omega arith)))
 
   -- fewer states have g than f, where all that have it have f and one that has f lacks it
-  pub count_of_less : (n : ℕ) → ((i : ℕ) → i < n → g i ≡ true → f i ≡ true) → (j : ℕ) → j < n → f j ≡ true → g j ≡ false → count_of n g < count_of n f
+  pub count_of_less : (n : ℕ) → ((i : ℕ) → i < n → g i ≡ true → f i ≡ true) → (j : ℕ) → j < n → f j ≡ true → g j ≡ false
+      → count_of n g < count_of n f
   unfolding count_of
   count_of_less zero sub j h yes-f no-g = absurd (omega arith)
-  count_of_less (suc n) sub j h yes-f no-g = go (ℕ_discrete j n) (count_le n (λ i l. sub i (omega arith))) (λ l. count_of_less n (λ i m. sub i (omega arith)) j l yes-f no-g)
+  count_of_less (suc n) sub j h yes-f no-g =
+      go (ℕ_discrete j n) (count_le n (λ i l. sub i (omega arith)))
+      (λ l. count_of_less n (λ i m. sub i (omega arith)) j l yes-f no-g)
     where
-      go : Dec (j ≡ n) → count_of n g ≤ count_of n f → (j < n → count_of n g < count_of n f) → count_of n g + cond (g n) 1 0 < count_of n f + cond (f n) 1 0
+      go : Dec (j ≡ n) → count_of n g ≤ count_of n f → (j < n → count_of n g < count_of n f)
+          → count_of n g + cond (g n) 1 0 < count_of n f + cond (f n) 1 0
       go (yes e) rest less = rw (sym (ap f e) ∙ yes-f, sym (ap g e) ∙ no-g) (omega arith)
       go (no d) rest less = omega (arith, less (omega arith), one_le (g n) (f n) (sub n (omega arith)))
 
@@ -169,7 +176,9 @@ unfolding count_of ones
 ones_count zero m h = let none : m ≡ 0 = omega arith in ap ones none
 ones_count (suc w) m h =
     ones_step m
-    ∙ ap₂ (λ (x y : ℕ). x + y) (low_digit m) (ones_count w (m / 2) (half_lt w m h) ∙ count_of_cong w (member (m / 2)) (λ s. member m (suc s)) (λ s l. sym (member_next m s)))
+    ∙ ap₂ (λ (x y : ℕ). x + y) (low_digit m)
+    (ones_count w (m / 2) (half_lt w m h)
+    ∙ count_of_cong w (member (m / 2)) (λ s. member m (suc s)) (λ s l. sym (member_next m s)))
     ∙ sym (count_of_low w (member m))
 
 -- the zeros below the lowest set bit of a number are counted to the lowest member of the set
@@ -177,10 +186,13 @@ pub zeros_lowest : (w m : ℕ) → count_trailing_zeros w m ≡ lowest_of w (mem
 unfolding count_trailing_zeros lowest_of
 zeros_lowest zero m = refl
 zeros_lowest (suc w) m =
-    ap₂ under (low_digit m) (zeros_lowest w (m / 2) ∙ lowest_of_cong w (member (m / 2)) (λ s. member m (suc s)) (λ s l. sym (member_next m s)))
+    ap₂ under (low_digit m) (zeros_lowest w (m / 2)
+    ∙ lowest_of_cong w (member (m / 2)) (λ s. member m (suc s)) (λ s l. sym (member_next m s)))
     ∙ go (member m zero)
   where
-    go : (b : Bool) → under (cond b 1 0) (lowest_of w (λ s. member m (suc s))) ≡ cond b 0 (suc (lowest_of w (λ s. member m (suc s))))
+    go : (b : Bool)
+        → under (cond b 1 0) (lowest_of w (λ s. member m (suc s)))
+        ≡ cond b 0 (suc (lowest_of w (λ s. member m (suc s))))
     go true = refl
     go false = refl
 
@@ -193,7 +205,8 @@ lowest_of_before (suc n) f s h = go (f zero) refl s h (lowest_of_before n (λ t.
     low : ℕ
     low = lowest_of n (λ t. f (suc t))
 
-    go : (b : Bool) → f zero ≡ b → (s : ℕ) → s < cond b 0 (suc low) → ((t : ℕ) → t < low → f (suc t) ≡ false) → f s ≡ false
+    go : (b : Bool) → f zero ≡ b → (s : ℕ) → s < cond b 0 (suc low) → ((t : ℕ) → t < low → f (suc t) ≡ false)
+        → f s ≡ false
     go true e s h rest = absurd (not-suc-le-zero h)
     go false e zero h rest = e
     go false e (suc s) h rest = rest s (omega arith)
@@ -207,7 +220,8 @@ lowest_of-has (suc n) f h = go (f zero) refl h (lowest_of-has n (λ t. f (suc t)
     low : ℕ
     low = lowest_of n (λ t. f (suc t))
 
-    go : (b : Bool) → f zero ≡ b → cond b 0 (suc low) < suc n → (low < n → f (suc low) ≡ true) → f (cond b 0 (suc low)) ≡ true
+    go : (b : Bool) → f zero ≡ b → cond b 0 (suc low) < suc n → (low < n → f (suc low) ≡ true)
+        → f (cond b 0 (suc low)) ≡ true
     go true e h rest = e
     go false e h rest = rest (omega arith)
 
@@ -221,4 +235,5 @@ lowest_found w m h some = lt_of_not-le (λ l. some (empty w m h (λ s k. lowest_
 
 -- a set that is not 0 has a member
 pub some_member : (w m : ℕ) → m < 2 ^ w → ¬ (m ≡ 0) → (s : ℕ) × (s < w) × (member m s ≡ true)
-some_member w m h some = (lowest_of w (member m), lowest_found w m h some, lowest_of-has w (member m) (lowest_found w m h some))
+some_member w m h some =
+    (lowest_of w (member m), lowest_found w m h some, lowest_of-has w (member m) (lowest_found w m h some))

@@ -1,4 +1,5 @@
--- Going through the members of a set, the lowest of those left first: fewer are left each time, and the members that have f are collected.
+-- Going through the members of a set, the lowest of those left first: fewer are left each time, and the members that
+-- have f are collected.
 use Prim.Native.Nat.{ℕ, ◌^◌, ◌<◌}
 use mathlib.Core.Path.{◌≡◌, refl, sym, ap, ◌∙◌}
 use mathlib.Core.Bool.{Bool, true, false, not, ◌&&◌, ◌||◌, and-true}
@@ -7,7 +8,16 @@ use borrow.Author.Tests.{eqb-true, eq-eqb}
 use lib.Dec.{eqb}
 use Rattle.sets.specs.Member.{member, set_of, count_of, lowest_of}
 use Rattle.sets.proofs.Laws.{member-zero}
-use Rattle.sets.proofs.SetOf.{member-set_of-below, set_of_cong, set_of_unique, set_of-lt, some_member, count_of_less, lowest_of-has, lowest_of_least}
+use Rattle.sets.proofs.SetOf.{
+  member-set_of-below,
+  set_of_cong,
+  set_of_unique,
+  set_of-lt,
+  some_member,
+  count_of_less,
+  lowest_of-has,
+  lowest_of_least,
+}
 
 -- a set that is not empty has a lowest member below 32
 pub lowest_below : (set : ℕ) → set < 2 ^ 32 → ¬ (set ≡ 0) → lowest_of 32 (member set) < 32
@@ -62,8 +72,10 @@ module _ (set left s : ℕ) (l : Left set left) (some : ¬ (left ≡ 0)) (low : 
       gone false = refl
 
   -- the members gone through that have f, and then with the next one
-  pub collect_next : (f : ℕ → Bool) (m : ℕ) (b : Bool) → m ≡ set_of 32 (λ t. (member set t && not (member left t)) && f t) → b ≡ f s
-      → set_of 32 (λ t. member m t || (b && eqb t s)) ≡ set_of 32 (λ t. (member set t && not (member (others left s) t)) && f t)
+  pub collect_next : (f : ℕ → Bool) (m : ℕ) (b : Bool)
+      → m ≡ set_of 32 (λ t. (member set t && not (member left t)) && f t) → b ≡ f s
+      → set_of 32 (λ t. member m t || (b && eqb t s))
+      ≡ set_of 32 (λ t. (member set t && not (member (others left s) t)) && f t)
   collect_next f m b e p = set_of_cong 32 _ _ (λ t h.
       (λ i. ((ap (λ (w : ℕ). member w t) e ∙ member-set_of-below 32 _ t h) i) || (p i && eqb t s))
       ∙ at t (eqb t s) refl
@@ -83,7 +95,8 @@ module _ (set left s : ℕ) (l : Left set left) (some : ¬ (left ≡ 0)) (low : 
       here false = refl
 
       at : (t : ℕ) (q : Bool) → eqb t s ≡ q
-          → ((member set t && not (member left t)) && f t) || (f s && q) ≡ (member set t && not (member left t && not q)) && f t
+          → ((member set t && not (member left t)) && f t) || (f s && q)
+          ≡ (member set t && not (member left t && not q)) && f t
       at t false d = plain (member set t) (member left t) (f t) (f s)
       at t true d =
           let e : t ≡ s = eqb-true t s d in
@@ -92,9 +105,11 @@ module _ (set left s : ℕ) (l : Left set left) (some : ¬ (left ≡ 0)) (low : 
           ∙ sym (λ i. (next_inside i && not (next_left i && false)) && f s))
 
 -- none is left
-pub collect_last : (set left : ℕ) (f : ℕ → Bool) → left ≡ 0 → set_of 32 (λ t. (member set t && not (member left t)) && f t) ≡ set_of 32 (λ t. member set t && f t)
+pub collect_last : (set left : ℕ) (f : ℕ → Bool) → left ≡ 0
+    → set_of 32 (λ t. (member set t && not (member left t)) && f t) ≡ set_of 32 (λ t. member set t && f t)
 collect_last set left f e = set_of_cong 32 _ _ (λ t h.
-    ap (λ (b : Bool). (member set t && not b) && f t) (ap (λ (w : ℕ). member w t) e ∙ member-zero t) ∙ ap (λ (b : Bool). b && f t) (and-true (member set t)))
+    ap (λ (b : Bool). (member set t && not b) && f t) (ap (λ (w : ℕ). member w t) e ∙ member-zero t)
+    ∙ ap (λ (b : Bool). b && f t) (and-true (member set t)))
 
 -- none is gone through yet
 pub collect_first : (set : ℕ) (f : ℕ → Bool) → 0 ≡ set_of 32 (λ t. (member set t && not (member set t)) && f t)

@@ -23,18 +23,23 @@ bit_member set s = ap (λ (x : ℕ). eqb x 1) (and_mask (set / 2 ^ s) 1)
 
 -- `a | b`
 pub or_set : (a b : ℕ) → a < 2 ^ 32 → b < 2 ^ 32 → bit_or a b ≡ set_of 32 (λ t. member a t || member b t)
-or_set a b p q = set_of_unique 32 (λ t. member a t || member b t) (bit_or a b) (or_lt 32 a b p q) (λ s h. member-or a b s)
+or_set a b p q =
+    set_of_unique 32 (λ t. member a t || member b t) (bit_or a b) (or_lt 32 a b p q) (λ s h. member-or a b s)
 
 -- `a & b`
 pub and_set : (a b : ℕ) → a < 2 ^ 32 → b < 2 ^ 32 → bit_and a b ≡ set_of 32 (λ t. member a t && member b t)
-and_set a b p q = set_of_unique 32 (λ t. member a t && member b t) (bit_and a b) (and_lt 32 a b p q) (λ s h. member-and a b s)
+and_set a b p q =
+    set_of_unique 32 (λ t. member a t && member b t) (bit_and a b) (and_lt 32 a b p q) (λ s h. member-and a b s)
 
 -- `a & !b`
-pub minus_set : (a b : ℕ) → a < 2 ^ 32 → b < 2 ^ 32 → bit_and a (4294967295 - b) ≡ set_of 32 (λ t. member a t && not (member b t))
+pub minus_set : (a b : ℕ) → a < 2 ^ 32 → b < 2 ^ 32
+    → bit_and a (4294967295 - b) ≡ set_of 32 (λ t. member a t && not (member b t))
 minus_set a b p q =
-    set_of_unique 32 (λ t. member a t && not (member b t)) (bit_and a (4294967295 - b)) (and_lt 32 a (4294967295 - b) p (ones_sub-lt 32 b))
+    set_of_unique 32 (λ t. member a t && not (member b t)) (bit_and a (4294967295 - b))
+    (and_lt 32 a (4294967295 - b) p (ones_sub-lt 32 b))
     (λ s h. member-and a (4294967295 - b) s
-    ∙ ap (λ (x : Bool). member a s && x) (member_complement 32 b s q ∙ ap (λ (x : Bool). x && not (member b s)) (lt-ltb s 32 h)))
+    ∙ ap (λ (x : Bool). member a s && x)
+    (member_complement 32 b s q ∙ ap (λ (x : Bool). x && not (member b s)) (lt-ltb s 32 h)))
 
 -- `set | 1 << s`
 pub insert_set : (set s : ℕ) → set < 2 ^ 32 → s < 32
@@ -54,7 +59,8 @@ insert_past set s p h =
 pub below_set : (n : ℕ) → n < 32 → (1 * 2 ^ n) % 4294967296 - 1 ≡ set_of 32 (λ t. ltb t n)
 below_set n h =
     ap (λ (x : ℕ). x - 1) (shifted_one n h)
-    ∙ set_of_unique 32 (λ t. ltb t n) (2 ^ n - 1) (lt_of_le_of_lt (sub-le (2 ^ n) 1) (pow-lt {j = 32} h)) (λ t l. member-ones n t)
+    ∙ set_of_unique 32 (λ t. ltb t n) (2 ^ n - 1) (lt_of_le_of_lt (sub-le (2 ^ n) 1) (pow-lt {j = 32} h))
+    (λ t l. member-ones n t)
 
 -- all 32 states are below n
 pub below_all : (n : ℕ) → 32 ≤ n → 4294967295 ≡ set_of 32 (λ t. ltb t n)

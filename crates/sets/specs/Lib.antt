@@ -1,1 +1,2 @@
+-- To be believed: what the promises speak of.
 pub mod Member

@@ -1,5 +1,23 @@
 -- A set of states as a number, of which bit s says whether s is in the set.
-use Rattle.std.specs.Prelude.{ℕ, zero, suc, ◌+◌, ◌/◌, ◌%◌, ◌^◌, ◌<◌, ◌≡◌, Bool, cond, not, ◌&&◌, Option, Some, None, eqb}
+use Rattle.std.specs.Prelude.{
+  ℕ,
+  zero,
+  suc,
+  ◌+◌,
+  ◌/◌,
+  ◌%◌,
+  ◌^◌,
+  ◌<◌,
+  ◌≡◌,
+  Bool,
+  cond,
+  not,
+  ◌&&◌,
+  Option,
+  Some,
+  None,
+  eqb,
+}
 
 -- s is in the set m: bit s of m
 unfoldable pub member : ℕ → ℕ → Bool
@@ -23,4 +41,6 @@ lowest_of (suc n) f = cond (f 0) 0 (suc (lowest_of n (λ s. f (suc s))))
 -- the next member of what is left: the lowest, and the others stay; none where nothing is left
 abbrev pub NextMember : ℕ → Option ℕ → ℕ → Type 0
 NextMember left None after = (left ≡ 0) × (after ≡ 0)
-NextMember left (Some s) after = (s < 32) × (¬ (left ≡ 0)) × (s ≡ lowest_of 32 (member left)) × (after ≡ set_of 32 (λ t. member left t && not (eqb t s)))
+NextMember left (Some s) after =
+    (s < 32) × (¬ (left ≡ 0)) × (s ≡ lowest_of 32 (member left))
+    × (after ≡ set_of 32 (λ t. member left t && not (eqb t s)))

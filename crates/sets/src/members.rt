@@ -5,12 +5,13 @@ ghost use Rattle.sets.specs.Member.{member, count_of, NextMember};
 
 use crate::{lowest, remove};
 
-// The members that are left, of which the lowest comes next.
+/// An iterator over the members of a set, ascending. `left` has those that are still to come.
 #[derive(Drop)]
 pub struct Members {
     pub left: u32,
 }
 
+/// The members of the set, ascending, each once.
 pub fn members_of(set: u32) -> Members
     ensures { result.left ≡ set }
 {

@@ -38,7 +38,8 @@ pub decimal_high : (n : ℕ) → 10 ≤ n → decimal n ≡ decimal (n / 10) ++ 
 unfolding decimal
 decimal_high n h =
     digits_high n n h
-    ∙ ap (λ (l : List ℕ). l ++ (digit (n % 10) ∷ [])) (digits_room n (suc (n / 10)) (n / 10) (omega arith) (omega arith))
+    ∙ ap (λ (l : List ℕ). l ++ (digit (n % 10) ∷ []))
+    (digits_room n (suc (n / 10)) (n / 10) (omega arith) (omega arith))
 
 -- a digit behind a number that is not 0
 pub decimal_more : (v d : ℕ) → 0 < v → d < 10 → decimal (10 * v + d) ≡ decimal v ++ (digit d ∷ [])

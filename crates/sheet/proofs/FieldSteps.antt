@@ -40,7 +40,8 @@ module _ (max : ℕ) where
 
 -- at the first byte: a digit begins the value, any other byte breaks the form
 module _ (max stop : ℕ) where
-  pub field-digit : (b : ℕ) (rest : List ℕ) → is_digit b ≡ true → field max stop (b ∷ rest) ≡ digits_up_to max stop (b - 48) rest
+  pub field-digit : (b : ℕ) (rest : List ℕ) → is_digit b ≡ true
+      → field max stop (b ∷ rest) ≡ digits_up_to max stop (b - 48) rest
   unfolding field
   field-digit b rest e = rw (e, field)
 
@@ -53,10 +54,12 @@ module _ (max stop : ℕ) where
   unfolding digits_up_to
   scan_end v b rest e = rw (e, digits_up_to)
 
-  pub scan_more : (v b : ℕ) (rest : List ℕ) → eqb b stop ≡ false → extends max v b ≡ true → digits_up_to max stop v (b ∷ rest) ≡ digits_up_to max stop (extended v b) rest
+  pub scan_more : (v b : ℕ) (rest : List ℕ) → eqb b stop ≡ false → extends max v b ≡ true
+      → digits_up_to max stop v (b ∷ rest) ≡ digits_up_to max stop (extended v b) rest
   unfolding digits_up_to
   scan_more v b rest e f = rw (e, f, digits_up_to)
 
-  pub scan_broken : (v b : ℕ) (rest : List ℕ) → eqb b stop ≡ false → extends max v b ≡ false → digits_up_to max stop v (b ∷ rest) ≡ broken
+  pub scan_broken : (v b : ℕ) (rest : List ℕ) → eqb b stop ≡ false → extends max v b ≡ false
+      → digits_up_to max stop v (b ∷ rest) ≡ broken
   unfolding digits_up_to
   scan_broken v b rest e f = rw (e, f, digits_up_to)

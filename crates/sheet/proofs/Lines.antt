@@ -7,7 +7,20 @@ use Rattle.table.specs.declared.counts.Counts.{Counts}
 use Rattle.table.specs.declared.record.State.{State}
 use Rattle.table.specs.declared.record.Step.{Step}
 use Rattle.table.specs.declared.record.Node.{Node}
-use Rattle.sheet.specs.Form.{CountsInRange, StateInRange, StepInRange, NodeInRange, space, newline, ended, line, counts_line, state_line, step_line, node_line}
+use Rattle.sheet.specs.Form.{
+  CountsInRange,
+  StateInRange,
+  StepInRange,
+  NodeInRange,
+  space,
+  newline,
+  ended,
+  line,
+  counts_line,
+  state_line,
+  step_line,
+  node_line,
+}
 use Rattle.sheet.specs.Parse.{Parser, ◌>>=◌, return, field, counts_parser, state_parser, step_parser, node_parser}
 use Rattle.sheet.proofs.Exact.{Exact, exact_as, exact_then, exact_return}
 use Rattle.sheet.proofs.FieldExact.{field_exact}
@@ -37,8 +50,11 @@ module _ {B : Type 0} (max stop : ℕ) (next : ℕ → Parser B) (Q : ℕ → B 
 
 -- the last field of a line
 module _ {B : Type 0} (max stop : ℕ) (make : ℕ → B) (part : B → ℕ) where
-  last_field : Field_exact max stop → ((v : ℕ) (b : B) → make v ≡ b → v ≡ part b) → Exact (field max stop >>= (λ v. return (make v))) (λ b. (part b ≤ max) × (make (part b) ≡ b)) (λ b. ended stop (part b) ++ [])
-  last_field x same = field_then max stop (λ v. return (make v)) (λ v b. make v ≡ b) (λ b. []) part x (λ v. exact_return (make v)) same
+  last_field : Field_exact max stop → ((v : ℕ) (b : B) → make v ≡ b → v ≡ part b)
+      → Exact (field max stop >>= (λ v. return (make v))) (λ b. (part b ≤ max) × (make (part b) ≡ b))
+      (λ b. ended stop (part b) ++ [])
+  last_field x same =
+      field_then max stop (λ v. return (make v)) (λ v b. make v ≡ b) (λ b. []) part x (λ v. exact_return (make v)) same
 
 -- the four lines
 pub state_exact : Exact state_parser StateInRange state_line
@@ -46,7 +62,8 @@ unfolding line
 state_exact =
     exact_as
     (field_then 255 space _ _ _ (λ (s : State). s.initial) byte_field
-    (λ i. last_field 65535 newline (λ l. record { initial = i; label = l }) (λ (s : State). s.label) last_word_field (λ l s e. ap (λ (t : State). t.label) e))
+    (λ i. last_field 65535 newline (λ l. record { initial = i; label = l }) (λ (s : State). s.label) last_word_field
+    (λ l s e. ap (λ (t : State). t.label) e))
     (λ i s q. ap (λ (t : State). t.initial) q.1))
     (λ s h. record { initial = h.0; label = h.1.0 })
     (λ s h. (h.initial, (h.label, refl)))
@@ -58,7 +75,8 @@ step_exact =
     exact_as
     (field_then 255 space _ _ _ (λ (x : Step). x.from) byte_field
     (λ i. field_then 255 space _ _ _ (λ (x : Step). x.to) byte_field
-    (λ j. last_field 255 newline (λ p. record { from = i; to = j; price = p }) (λ (x : Step). x.price) last_byte_field (λ p x e. ap (λ (y : Step). y.price) e))
+    (λ j. last_field 255 newline (λ p. record { from = i; to = j; price = p }) (λ (x : Step). x.price) last_byte_field
+    (λ p x e. ap (λ (y : Step). y.price) e))
     (λ j x q. ap (λ (y : Step). y.to) q.1))
     (λ i x q. ap (λ (y : Step). y.from) q.1.1))
     (λ x h. record { from = h.0; to = h.1.0; price = h.1.1.0 })
@@ -71,7 +89,8 @@ node_exact =
     exact_as
     (field_then 255 space _ _ _ (λ (x : Node). x.kind) byte_field
     (λ k. field_then 255 space _ _ _ (λ (x : Node). x.a) byte_field
-    (λ a. last_field 255 newline (λ b. record { kind = k; a = a; b = b }) (λ (x : Node). x.b) last_byte_field (λ b x e. ap (λ (y : Node). y.b) e))
+    (λ a. last_field 255 newline (λ b. record { kind = k; a = a; b = b }) (λ (x : Node). x.b) last_byte_field
+    (λ b x e. ap (λ (y : Node). y.b) e))
     (λ a x q. ap (λ (y : Node). y.a) q.1))
     (λ k x q. ap (λ (y : Node). y.kind) q.1.1))
     (λ x h. record { kind = h.0; a = h.1.0; b = h.1.1.0 })
@@ -85,7 +104,8 @@ counts_exact =
     (field_then 255 space _ _ _ (λ (c : Counts). c.states) byte_field
     (λ n. field_then 255 space _ _ _ (λ (c : Counts). c.steps) byte_field
     (λ e. field_then 255 space _ _ _ (λ (c : Counts). c.nodes) byte_field
-    (λ f. last_field 255 newline (λ p. record { states = n; steps = e; nodes = f; props = p }) (λ (c : Counts). c.props) last_byte_field (λ p c q. ap (λ (d : Counts). d.props) q))
+    (λ f. last_field 255 newline (λ p. record { states = n; steps = e; nodes = f; props = p })
+    (λ (c : Counts). c.props) last_byte_field (λ p c q. ap (λ (d : Counts). d.props) q))
     (λ f c q. ap (λ (d : Counts). d.nodes) q.1))
     (λ e c q. ap (λ (d : Counts). d.steps) q.1.1))
     (λ n c q. ap (λ (d : Counts). d.states) q.1.1.1))

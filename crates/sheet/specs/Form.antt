@@ -1,4 +1,4 @@
--- Which bytes are a sheet. A sheet is the rendering of values that are each in their range.
+-- Which bytes are a sheet: Specification, "Sheets". It is the rendering of values that are each in their range.
 use Rattle.std.specs.Prelude.{ℕ, zero, suc, ◌+◌, ◌/◌, ◌%◌, ◌≤◌, ◌≡◌, true, false, List, [], ◌∷◌, ◌++◌, ltb, length}
 use Prim.Native.Char.{code}
 use Prim.Native.String.{String, [] as empty, ◌∷◌ as ◌followed-by◌}
@@ -77,8 +77,8 @@ nodes_names = ascii "kind a b\n"
 abbrev pub digit : ℕ → ℕ
 digit d = 48 + d
 
--- a number in decimal, no leading zero: below ten one digit, else the digits of its tenth and its last digit. `room` only bounds
--- the recursion: a number n has at most suc n digits
+-- a number in decimal, no leading zero: below ten one digit, else the digits of its tenth and its last digit. `room`
+-- only bounds the recursion: a number n has at most suc n digits
 unfoldable pub digits : ℕ → ℕ → List ℕ
 digits zero n = []
 digits (suc room) n = elim (ltb n 10) [ true ↦ digit n ∷ [] | false ↦ digits room (n / 10) ++ (digit (n % 10) ∷ []) ]
@@ -110,17 +110,17 @@ abbrev pub node_line : Node → List ℕ
 node_line x = line (x.kind ∷ x.a ∷ x.b ∷ [])
 
 -- the bytes of each element, one behind the other
-unfoldable pub bytes_of : {A : Type 0} → (A → List ℕ) → List A → List ℕ
-bytes_of f [] = []
-bytes_of f (x ∷ xs) = f x ++ bytes_of f xs
+unfoldable pub concat_map : {A : Type 0} → (A → List ℕ) → List A → List ℕ
+concat_map f [] = []
+concat_map f (x ∷ xs) = f x ++ concat_map f xs
 
 -- four blocks, each a line of names, then lines of values
 unfoldable pub render : Sheet → List ℕ
 render v =
     (counts_names ++ counts_line v.counts)
-    ++ (states_names ++ bytes_of state_line v.states)
-    ++ (steps_names ++ bytes_of step_line v.steps)
-    ++ (nodes_names ++ bytes_of node_line v.nodes)
+    ++ (states_names ++ concat_map state_line v.states)
+    ++ (steps_names ++ concat_map step_line v.steps)
+    ++ (nodes_names ++ concat_map node_line v.nodes)
 
 -- a text is of sheet form when it is the rendering of values in their ranges
 abbrev pub IsSheet : List ℕ → Type 0

@@ -1,6 +1,25 @@
 -- The sheet as a parser reads it: what stands at the front of a text, and the text behind it.
-use Rattle.std.specs.Prelude.{ℕ, zero, suc, ◌+◌, ◌-◌, ◌*◌, Bool, true, false, ◌&&◌, List, [], ◌∷◌, leb, ltb, eqb}
-use Rattle.std.proofs.Math.Option.{Option, none, some}
+use Rattle.std.specs.Prelude.{
+  ℕ,
+  zero,
+  suc,
+  ◌+◌,
+  ◌-◌,
+  ◌*◌,
+  Bool,
+  true,
+  false,
+  ◌&&◌,
+  List,
+  [],
+  ◌∷◌,
+  Option,
+  Some,
+  None,
+  leb,
+  ltb,
+  eqb,
+}
 use Rattle.table.specs.declared.counts.Counts.{Counts}
 use Rattle.table.specs.declared.record.State.{State}
 use Rattle.table.specs.declared.record.Step.{Step}
@@ -132,9 +151,9 @@ sheet_parser = do
 
 -- nothing stands behind the last line
 abbrev pub whole : Parsed Sheet → Option Sheet
-whole (got v []) = some v
-whole (got v (b ∷ rest)) = none
-whole broken = none
+whole (got v []) = Some v
+whole (got v (b ∷ rest)) = None
+whole broken = None
 
 -- the values of a text of sheet form
 unfoldable pub parse : List ℕ → Option Sheet

@@ -3,10 +3,13 @@ ghost use Rattle.std.specs.Prelude.{◌≡◌, ◌≤◌};
 ghost use Rattle.sheet.specs.Parse.{field, extends as may_follow};
 ghost use Rattle.sheet.specs.Reading.{reading};
 
+/// The byte between two values of a line.
 pub const SPACE: u8 = 32;
 
+/// The byte that ends a line.
 pub const NEWLINE: u8 = 10;
 
+/// The digit 0; the others are the nine bytes behind it.
 pub const ZERO: u8 = 48;
 
 // Whether b may stand behind the digits of value: behind a 0 no digit does, and a value is at most max.
@@ -23,8 +26,8 @@ fn extends(max: usize, value: usize, b: u8) -> bool
     10 * value + (b - ZERO) as usize <= max
 }
 
-// A value of at most max, no leading zero, with the byte stop behind it, and the text behind that. `str::parse` wants a &str that
-// ends where the number does, and takes a `+` and leading zeros.
+// A value of at most max, no leading zero, with the byte stop behind it, and the text behind that. `str::parse` wants
+// a &str that ends where the number does, and takes a `+` and leading zeros.
 #[tactic(auto, unfolding(crate::specs::Parse::field, crate::specs::Parse::digits_up_to))]
 pub fn read_field(text: &[u8], max: usize, stop: u8) -> Option<(usize, &[u8])>
     requires { max ≤ 65535 }

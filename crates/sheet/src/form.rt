@@ -7,7 +7,8 @@ use crate::block::{block, counts_block};
 use crate::names::{NODES_NAMES, STATES_NAMES, STEPS_NAMES};
 use table::{Counts, Node, State, Step};
 
-// The counts, and the text from the first line of the states, of the steps and of the nodes on.
+/// A text of sheet form, taken apart: the counts, and the text from the first line of the states, of the steps and of
+/// the nodes on, each up to the end of the whole. The counts are as written, and may be out of their ranges.
 #[derive(Clone, Copy)]
 pub struct Form<'a> {
     pub counts: Counts,
@@ -16,6 +17,7 @@ pub struct Form<'a> {
     pub nodes: &'a [u8],
 }
 
+/// Test 1, of the whole text: a text that is not of sheet form is None.
 #[tactic(auto, unfolding(crate::specs::Parse::sheet_parser, crate::specs::Parse::parse))]
 pub fn check_form(text: &[u8]) -> Option<Form<'_>>
     ensures { form_reading result ≡ parse text.now }

@@ -6,10 +6,12 @@ ghost use Rattle.sheet.specs.Reading.{reading};
 use crate::field::{NEWLINE, SPACE, read_field};
 use table::{Counts, Node, State, Step};
 
-// A record that a line of a sheet holds.
+/// A record that a line of a sheet holds.
 pub trait Line: Copy {
     ghost parser: { Parser Self };
 
+    /// The record that the first line of the text holds, and the text behind that line. None where the line is out of
+    /// form.
     fn read(text: &[u8]) -> Option<(Self, &[u8])>
         ensures { reading result ≡ parser text.now };
 }

@@ -1,4 +1,5 @@
--- The tests over a whole list, `all`, `any`, `distinct` and `nodes_fit`: what they say at an index, and of a list put behind another.
+-- The tests over a whole list, `all`, `any`, `distinct` and `nodes_fit`: what they say at an index, and of a list put
+-- behind another.
 use Prim.Native.Nat.{ℕ, zero, suc, ◌+◌, ◌<◌, suc-le-suc}
 use mathlib.Core.Path.{◌≡◌, refl, sym, ap, ap₂, subst, ◌∙◌}
 use mathlib.Core.Logic.{inl, inr}
@@ -6,8 +7,7 @@ use mathlib.Core.Bool.{Bool, true, false, not, ◌&&◌, ◌||◌, or_assoc, fal
 use mathlib.Core.List.{List, [], ◌∷◌, ◌++◌}
 use native.Mathlib.Nat.{add-zero, zero-lt-suc, not-suc-le-zero, le_of_suc-le-suc}
 use native.Mathlib.Omega.{arith}
-use borrow.Author.Tests.{not-true, eq-eqb}
-use lib.Dec.{eqb}
+use borrow.Author.Tests.{not-true}
 use lib.ListN.{length, get_or}
 use Rattle.table.specs.declared.record.Step.{Step}
 use Rattle.table.specs.declared.record.Node.{Node}
@@ -26,7 +26,8 @@ module _ {ℓ} {A : Type ℓ} (p : A → Bool) where
   pub at_all : (xs : List A) (d : A) → ((i : ℕ) → i < length xs → p (get_or xs i d) ≡ true) → all p xs ≡ true
   unfolding all
   at_all [] d f = refl
-  at_all (x ∷ xs) d f = parts_and (p x) (all p xs) (f zero (zero-lt-suc (length xs))) (at_all xs d (λ i h. f (suc i) (suc-le-suc h)))
+  at_all (x ∷ xs) d f =
+      parts_and (p x) (all p xs) (f zero (zero-lt-suc (length xs))) (at_all xs d (λ i h. f (suc i) (suc-le-suc h)))
 
   -- a test that any element passes is passed at some index
   pub any_at : (xs : List A) (d : A) → any p xs ≡ true → (i : ℕ) × (i < length xs) × (p (get_or xs i d) ≡ true)
@@ -63,23 +64,22 @@ module _ {ℓ} {A : Type ℓ} (p : A → Bool) where
   any_append [] ys = refl
   any_append (x ∷ xs) ys = ap (λ (b : Bool). p x || b) (any_append xs ys) ∙ sym (or_assoc (p x) (any p xs) (any p ys))
 
--- 7 looks at from and to alone: at another price a step is the same
-pub same_at_any_price : (s t p q : ℕ) → same_step (record { from = s; to = t; price = p }) (record { from = s; to = t; price = q }) ≡ true
-same_at_any_price s t p q = parts_and (eqb s s) (eqb t t) (eq-eqb s s refl) (eq-eqb t t refl)
-
 -- two steps may be compared either way round
 pub same_step-sym : (x y : Step) → same_step x y ≡ same_step y x
 same_step-sym x y = ap₂ ◌&&◌ (eqb-sym x.from y.from) (eqb-sym x.to y.to)
 
 -- of steps given once, no two at different indices are the same
-pub distinct_at : (xs : List Step) (d : Step) → distinct xs ≡ true → (i j : ℕ) → i < j → j < length xs → same_step (get_or xs i d) (get_or xs j d) ≡ false
+pub distinct_at : (xs : List Step) (d : Step) → distinct xs ≡ true → (i j : ℕ) → i < j → j < length xs
+    → same_step (get_or xs i d) (get_or xs j d) ≡ false
 unfolding distinct
 distinct_at [] d e i j l h = absurd (not-suc-le-zero h)
 distinct_at (x ∷ xs) d e i zero l h = absurd (not-suc-le-zero l)
 distinct_at (x ∷ xs) d e zero (suc j) l h =
-    none_at (same_step x) xs d (not-true (any (same_step x) xs) (and_parts (not (any (same_step x) xs)) (distinct xs) e).0) j (le_of_suc-le-suc h)
+    none_at (same_step x) xs d (not-true (any (same_step x) xs)
+    (and_parts (not (any (same_step x) xs)) (distinct xs) e).0) j (le_of_suc-le-suc h)
 distinct_at (x ∷ xs) d e (suc i) (suc j) l h =
-    distinct_at xs d (and_parts (not (any (same_step x) xs)) (distinct xs) e).1 i j (le_of_suc-le-suc l) (le_of_suc-le-suc h)
+    distinct_at xs d (and_parts (not (any (same_step x) xs)) (distinct xs) e).1 i j (le_of_suc-le-suc l)
+    (le_of_suc-le-suc h)
 
 -- and back
 pub at_distinct : (xs : List Step) (d : Step)
@@ -105,15 +105,18 @@ unfolding distinct any
 distinct_snoc [] y = refl
 distinct_snoc (x ∷ xs) y =
     ap₂ (λ (a b : Bool). not a && b) (any_append (same_step x) xs (y ∷ [])) (distinct_snoc xs y)
-    ∙ ap (λ (s : Bool). not (any (same_step x) xs || (s || false)) && (distinct xs && not (any (same_step y) xs))) (same_step-sym x y)
+    ∙ ap (λ (s : Bool). not (any (same_step x) xs || (s || false)) && (distinct xs && not (any (same_step y) xs)))
+    (same_step-sym x y)
     ∙ regroup (any (same_step x) xs) (distinct xs) (same_step y x) (any (same_step y) xs)
 
 -- of nodes that fit from number k on, the one at i fits as number k + i
-pub nodes_fit_at : (p k : ℕ) (xs : List Node) (d : Node) → nodes_fit p k xs ≡ true → (i : ℕ) → i < length xs → node_fits p (k + i) (get_or xs i d) ≡ true
+pub nodes_fit_at : (p k : ℕ) (xs : List Node) (d : Node) → nodes_fit p k xs ≡ true → (i : ℕ) → i < length xs
+    → node_fits p (k + i) (get_or xs i d) ≡ true
 unfolding nodes_fit
 nodes_fit_at p k [] d e i h = absurd (not-suc-le-zero h)
 nodes_fit_at p k (x ∷ xs) d e zero h =
-    subst (λ (n : ℕ). node_fits p n x ≡ true) (sym (add-zero k)) (and_parts (node_fits p k x) (nodes_fit p (suc k) xs) e).0
+    subst (λ (n : ℕ). node_fits p n x ≡ true) (sym (add-zero k))
+    (and_parts (node_fits p k x) (nodes_fit p (suc k) xs) e).0
 nodes_fit_at p k (x ∷ xs) d e (suc i) h =
     subst (λ (n : ℕ). node_fits p n (get_or xs i d) ≡ true) (omega arith)
     (nodes_fit_at p (suc k) xs d (and_parts (node_fits p k x) (nodes_fit p (suc k) xs) e).1 i (le_of_suc-le-suc h))

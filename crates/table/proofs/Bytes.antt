@@ -5,7 +5,18 @@ use mathlib.Core.List.{List, [], ◌∷◌}
 use native.Mathlib.Omega.{arith}
 use lib.ListN.{get_or, take, drop}
 use lib.Seq.{get_or-drop}
-use Rattle.table.specs.Table.{records, table_of, counts_of, step_of, steps_part, header_width, state_width, step_width, zero_step, step_at}
+use Rattle.table.specs.Table.{
+  records,
+  table_of,
+  counts_of,
+  step_of,
+  steps_part,
+  header_width,
+  state_width,
+  step_width,
+  zero_step,
+  step_at,
+}
 
 -- every element is a byte
 abbrev pub Bytes : List ℕ → Type 0
@@ -24,7 +35,8 @@ bytes_take (suc n) (x ∷ l) h (suc i) = bytes_take n l (λ j. h (suc j)) i
 pub bytes_part : (size start : ℕ) (l : List ℕ) → Bytes l → Bytes (take size (drop start l))
 bytes_part size start l h = bytes_take size (drop start l) (bytes_drop start l h)
 
-record_price : (count : ℕ) (l : List ℕ) → Bytes l → (j : ℕ) → (get_or (records step_of step_width count l) j zero_step).price < 256
+record_price : (count : ℕ) (l : List ℕ) → Bytes l → (j : ℕ)
+    → (get_or (records step_of step_width count l) j zero_step).price < 256
 unfolding records
 record_price zero l h j = omega arith
 record_price (suc count) l h zero = h 2

@@ -14,17 +14,16 @@ use Rattle.table.specs.declared.shape.Shape.TheVariants.{Constant, Proposition, 
 use Rattle.table.specs.declared.record.State.{State}
 use Rattle.table.specs.declared.record.Step.{Step}
 use Rattle.table.specs.declared.record.Node.{Node}
-use Rattle.table.specs.Table.{Table, zero_state, zero_step, zero_node, step_at}
+use Rattle.table.specs.Table.{Table, zero_state, zero_step, zero_node, step_at, is_initial}
+use Rattle.table.specs.Shape.{shape_of}
 use Rattle.table.specs.Accept.{
   all,
   any,
   distinct,
   counts_fit,
   state_fits,
-  is_initial,
   step_fits,
   same_step,
-  shape_of,
   fields_fit,
   node_fits,
   nodes_fit,
@@ -52,8 +51,11 @@ same_decided m n = (eqb-true m n, eq-eqb m n)
 
 pub all_decided : {A : Type 0} (p : A → Bool) (P : A → Type 0) → ((x : A) → (p x ≡ true) ↔ P x) → (xs : List A) (d : A)
     → (all p xs ≡ true) ↔ ((i : ℕ) → i < length xs → P (get_or xs i d))
-all_decided p P each xs d =
-    (λ e i h. (each (get_or xs i d)).0 (all_at p xs d e i h), λ f. at_all p xs d (λ i h. (each (get_or xs i d)).1 (f i h)))
+all_decided p P each xs d = (
+  λ e i h. (each (get_or xs i d)).0 (all_at p xs d e i h),
+  λ f. at_all p xs d
+      (λ i h. (each (get_or xs i d)).1 (f i h)),
+)
 
 pub counts_decided : (c : Counts) → (counts_fit c ≡ true) ↔ CountsFit c
 counts_decided c = (there, back)
@@ -83,7 +85,8 @@ counts_decided c = (there, back)
         parts_and _ _ f (le-leb c.props 16 w.few_props)
 
 pub state_decided : (p : ℕ) (x : State) → (state_fits p x ≡ true) ↔ ((x.initial ≤ 1) × (x.label < 2 ^ p))
-state_decided p x = both (leb x.initial 1) (ltb x.label (2 ^ p)) (at_most_decided x.initial 1) (below_decided x.label (2 ^ p))
+state_decided p x =
+    both (leb x.initial 1) (ltb x.label (2 ^ p)) (at_most_decided x.initial 1) (below_decided x.label (2 ^ p))
 
 pub step_decided : (n : ℕ) (x : Step) → (step_fits n x ≡ true) ↔ ((x.from < n) × (x.to < n))
 step_decided n x = both (ltb x.from n) (ltb x.to n) (below_decided x.from n) (below_decided x.to n)
@@ -119,8 +122,10 @@ module _ (T : Table) where
 
   pub distinct_decided : (distinct T.steps ≡ true) ↔ NoStepTwice T
   distinct_decided = (
-    λ e i j l h same. false≢true (sym (distinct_at T.steps zero_step e i j l h) ∙ (repeat_decided (step_at T i) (step_at T j)).1 same),
-    λ f. at_distinct T.steps zero_step (λ i j l h. not_so _ (λ e. f i j l h ((repeat_decided (step_at T i) (step_at T j)).0 e))),
+    λ e i j l h same. false≢true (sym (distinct_at T.steps zero_step e i j l h)
+        ∙ (repeat_decided (step_at T i) (step_at T j)).1 same),
+    λ f. at_distinct T.steps zero_step
+        (λ i j l h. not_so _ (λ e. f i j l h ((repeat_decided (step_at T i) (step_at T j)).0 e))),
   )
 
   pub nodes_decided : (nodes_fit T.props 0 T.nodes ≡ true) ↔ NodesFit T

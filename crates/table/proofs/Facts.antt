@@ -1,5 +1,5 @@
 -- What every accepted table has, and that a record read from a section is the table's record.
-use Prim.Native.Nat.{ℕ, ◌*◌, ◌^◌, ◌≤◌, ◌<◌}
+use Prim.Native.Nat.{ℕ, ◌*◌, ◌≤◌, ◌<◌}
 use mathlib.Core.Path.{◌≡◌, refl, sym, ap, ◌∙◌}
 use mathlib.Core.Bool.{true}
 use mathlib.Core.List.{List}
@@ -9,19 +9,48 @@ use borrow.Author.Tests.{eqb-true}
 use lib.Dec.{leb}
 use lib.ListN.{length, take, drop, length-take}
 use Rattle.table.specs.declared.counts.Counts.{Counts}
-use Rattle.table.specs.declared.record.State.{State}
 use Rattle.table.specs.declared.record.Step.{Step}
 use Rattle.table.specs.declared.refusal.Refusal.TheVariants.{Length}
 use Rattle.std.specs.Prelude.{Ok}
 use Rattle.table.specs.Verdict.{require}
-use Rattle.table.specs.Table.{Table, table_of, counts_of, packed_length, header_width, record_width, state_width, step_width, node_width, states_part, steps_part, nodes_part, state_of, step_of, node_of, zero_state, state_at, step_at, node_at}
-use Rattle.table.specs.Accept.{all, any, distinct, counts_fit, state_fits, is_initial, step_fits, nodes_fit, records_verdict, table_verdict}
-use Rattle.table.specs.Facts.{Wellformed, Packed, NoStepTwice, NodesFit}
+use Rattle.table.specs.Table.{
+  Table,
+  table_of,
+  counts_of,
+  packed_length,
+  header_width,
+  record_width,
+  state_width,
+  step_width,
+  node_width,
+  states_part,
+  steps_part,
+  nodes_part,
+  state_of,
+  step_of,
+  node_of,
+  zero_state,
+  state_at,
+  step_at,
+  node_at,
+  is_initial,
+}
+use Rattle.table.specs.Accept.{
+  all,
+  any,
+  distinct,
+  counts_fit,
+  state_fits,
+  step_fits,
+  nodes_fit,
+  records_verdict,
+  table_verdict,
+}
+use Rattle.table.specs.Facts.{Wellformed, NoStepTwice, NodesFit}
 use Rattle.table.specs.Refused.{CountsFit, StatesFit, SomeInitial, EndsAreStates}
 use Rattle.table.proofs.Records.{records-length, records_at, record_anywhere}
 use Rattle.table.proofs.Decided.{
   counts_decided,
-  state_decided,
   step_decided,
   states_decided,
   initial_decided,
@@ -30,45 +59,56 @@ use Rattle.table.proofs.Decided.{
   nodes_decided,
 }
 use Rattle.table.proofs.Verdicts.{then_accepted, require_accepted}
+use Rattle.table.proofs.AcceptedFacts.{AcceptedFacts}
 
 -- the record that a section has at a number below the count is the table's record of that number
-pub state_read_lem : (bytes : List ℕ) (s : ℕ) → s < (counts_of bytes).states → state_of (drop (state_width * s) (states_part bytes)) ≡ state_at (table_of bytes) s
-state_read_lem bytes s h = sym (records_at state_of state_width (counts_of bytes).states (states_part bytes) s zero_state h)
+pub state_read_lem : (bytes : List ℕ) (s : ℕ) → s < (counts_of bytes).states
+    → state_of (drop (state_width * s) (states_part bytes)) ≡ state_at (table_of bytes) s
+state_read_lem bytes s h =
+    sym (records_at state_of state_width (counts_of bytes).states (states_part bytes) s zero_state h)
 
 -- the same at any number: past the last record all reads as zeros
 no_longer : (size : ℕ) (bytes : List ℕ) → length (take size bytes) ≤ size
 no_longer size bytes = omega (arith, length-take size bytes, min-le_left size (length bytes))
 
-pub state_anywhere : (bytes : List ℕ) (s : ℕ) → state_of (drop (record_width * s) (states_part bytes)) ≡ state_at (table_of bytes) s
+pub state_anywhere : (bytes : List ℕ) (s : ℕ)
+    → state_of (drop (record_width * s) (states_part bytes)) ≡ state_at (table_of bytes) s
 state_anywhere bytes s =
-    record_anywhere state_of (counts_of bytes).states (states_part bytes) s (no_longer (state_width * (counts_of bytes).states) _)
+    record_anywhere state_of (counts_of bytes).states (states_part bytes) s
+    (no_longer (state_width * (counts_of bytes).states) _)
 
-pub step_anywhere : (bytes : List ℕ) (j : ℕ) → step_of (drop (record_width * j) (steps_part bytes)) ≡ step_at (table_of bytes) j
+pub step_anywhere : (bytes : List ℕ) (j : ℕ)
+    → step_of (drop (record_width * j) (steps_part bytes)) ≡ step_at (table_of bytes) j
 step_anywhere bytes j =
-    record_anywhere step_of (counts_of bytes).steps (steps_part bytes) j (no_longer (step_width * (counts_of bytes).steps) _)
+    record_anywhere step_of (counts_of bytes).steps (steps_part bytes) j
+    (no_longer (step_width * (counts_of bytes).steps) _)
 
-pub node_anywhere : (bytes : List ℕ) (i : ℕ) → node_of (drop (record_width * i) (nodes_part bytes)) ≡ node_at (table_of bytes) i
+pub node_anywhere : (bytes : List ℕ) (i : ℕ)
+    → node_of (drop (record_width * i) (nodes_part bytes)) ≡ node_at (table_of bytes) i
 node_anywhere bytes i =
-    record_anywhere node_of (counts_of bytes).nodes (nodes_part bytes) i (no_longer (node_width * (counts_of bytes).nodes) _)
+    record_anywhere node_of (counts_of bytes).nodes (nodes_part bytes) i
+    (no_longer (node_width * (counts_of bytes).nodes) _)
 
 -- counts that were read are those of the records
 module _ (bytes : List ℕ) (k : Counts) (e : k ≡ counts_of bytes) where
   pub states_are : k.states ≡ length (table_of bytes).states
-  states_are = ap (λ (c : Counts). c.states) e ∙ sym (records-length state_of state_width (counts_of bytes).states (states_part bytes))
+  states_are =
+      ap (λ (c : Counts). c.states) e
+      ∙ sym (records-length state_of state_width (counts_of bytes).states (states_part bytes))
 
   pub steps_are : k.steps ≡ length (table_of bytes).steps
-  steps_are = ap (λ (c : Counts). c.steps) e ∙ sym (records-length step_of step_width (counts_of bytes).steps (steps_part bytes))
+  steps_are =
+      ap (λ (c : Counts). c.steps) e
+      ∙ sym (records-length step_of step_width (counts_of bytes).steps (steps_part bytes))
 
   pub nodes_are : k.nodes ≡ length (table_of bytes).nodes
-  nodes_are = ap (λ (c : Counts). c.nodes) e ∙ sym (records-length node_of node_width (counts_of bytes).nodes (nodes_part bytes))
+  nodes_are =
+      ap (λ (c : Counts). c.nodes) e
+      ∙ sym (records-length node_of node_width (counts_of bytes).nodes (nodes_part bytes))
 
 -- counts that fit are within their bounds
 pub counts_within : (c : Counts) → counts_fit c ≡ true → CountsFit c
 counts_within c = (counts_decided c).0
-
--- what a state that fits has
-pub state_within : (p : ℕ) (x : State) → state_fits p x ≡ true → (x.initial ≤ 1) × (x.label < 2 ^ p)
-state_within p x = (state_decided p x).0
 
 -- what a step that fits has
 pub step_within : (n : ℕ) (x : Step) → step_fits n x ≡ true → (x.from < n) × (x.to < n)
@@ -76,7 +116,8 @@ step_within n x = (step_decided n x).0
 
 -- the counts of accepted bytes fit, their length is the one that the counts say, and their records are accepted
 pub header_accepted : (bytes : List ℕ) → table_verdict bytes ≡ Ok tt
-    → (counts_fit (counts_of bytes) ≡ true) × (length bytes ≡ packed_length (counts_of bytes)) × (records_verdict (table_of bytes) ≡ Ok tt)
+    → (counts_fit (counts_of bytes) ≡ true) × (length bytes ≡ packed_length (counts_of bytes))
+    × (records_verdict (table_of bytes) ≡ Ok tt)
 unfolding table_verdict
 header_accepted bytes e =
     let a = then_accepted (require Length (leb header_width (length bytes))) _ e in
@@ -95,12 +136,18 @@ records_accepted T e =
     let a = then_accepted _ _ e in
     let s = then_accepted _ _ a.0 in
     let b = then_accepted _ _ a.1 in
-    let j = then_accepted _ _ b.0 in
-    (require_accepted _ _ s.0, require_accepted _ _ s.1, require_accepted _ _ j.0, require_accepted _ _ j.1, require_accepted _ _ b.1)
+    let j = then_accepted _ _ b.0 in (
+      require_accepted _ _ s.0,
+      require_accepted _ _ s.1,
+      require_accepted _ _ j.0,
+      require_accepted _ _ j.1,
+      require_accepted _ _ b.1,
+    )
 
 -- a table of counts within the bounds
 abbrev pub CountsOfTable : Table → Type 0
-CountsOfTable T = CountsFit (record { states = length T.states; steps = length T.steps; nodes = length T.nodes; props = T.props })
+CountsOfTable T =
+    CountsFit (record { states = length T.states; steps = length T.steps; nodes = length T.nodes; props = T.props })
 
 -- records that pass each test have the facts of a table
 pub wellformed_by : (T : Table) → CountsOfTable T → StatesFit T → SomeInitial T → EndsAreStates T → NoStepTwice T
@@ -129,7 +176,7 @@ wellformed T w e =
     ((distinct_decided T).0 t.3) ((nodes_decided T).0 t.4)
 
 -- accepted bytes have the facts of a packed table
-pub accepted : (bytes : List ℕ) → table_verdict bytes ≡ Ok tt → Packed bytes
+pub accepted : (bytes : List ℕ) → table_verdict bytes ≡ Ok tt → AcceptedFacts bytes
 accepted bytes v =
     let t = header_accepted bytes v in
     let w = counts_within (counts_of bytes) t.0 in
@@ -145,7 +192,8 @@ accepted bytes v =
     }
 
 -- both ends of a step of an accepted table are among the 32 states
-pub step_ends : (bytes : List ℕ) → table_verdict bytes ≡ Ok tt → (j : ℕ) → j < length (table_of bytes).steps → (x : Step) → x ≡ step_at (table_of bytes) j
+pub step_ends : (bytes : List ℕ) → table_verdict bytes ≡ Ok tt → (j : ℕ) → j < length (table_of bytes).steps
+    → (x : Step) → x ≡ step_at (table_of bytes) j
     → (x.from < 32) × (x.to < 32)
 step_ends bytes ok j h x e =
     let t = (accepted bytes ok).table in (

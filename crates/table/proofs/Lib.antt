@@ -11,6 +11,6 @@ pub mod Scan
 pub mod Rows
 pub mod TargetSets
 pub mod Decided
+pub mod AcceptedFacts
 pub mod Facts
 pub mod Refused
-pub mod FixpointKind

@@ -14,9 +14,14 @@ two P a k low high pa pb =
     elim (ℕ_discrete a k) [ yes e ↦ subst P e pa | no d ↦ (let e : suc a ≡ k = omega (arith, d) in subst P e pb) ]
 
 -- and the same of four numbers
-pub four : (P : ℕ → Type 0) (a k : ℕ) → a ≤ k → k < suc (suc (suc (suc a))) → P a → P (suc a) → P (suc (suc a)) → P (suc (suc (suc a))) → P k
+pub four : (P : ℕ → Type 0) (a k : ℕ) → a ≤ k → k < suc (suc (suc (suc a))) → P a → P (suc a) → P (suc (suc a))
+    → P (suc (suc (suc a))) → P k
 four P a k low high pa pb pc pd =
-    elim (dec_lt k (suc (suc a))) [ yes h ↦ two P a k low h pa pb | no d ↦ two P (suc (suc a)) k (omega (arith, d)) high pc pd ]
+    elim (dec_lt k (suc (suc a))) [
+      | yes h ↦ two P a k low h pa pb
+      | no d ↦ two P (suc (suc a)) k
+          (omega (arith, d)) high pc pd
+    ]
 
 -- two numbers neither of which is less are the same
 pub neither_less : (i j : ℕ) → ¬ (i < j) → ¬ (j < i) → i ≡ j

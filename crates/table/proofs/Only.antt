@@ -22,7 +22,11 @@ module _ (m p : ℕ) (small : m < 2 ^ 32) (only : ℕ) (only-is : only ≡ set_o
       ∙ ap (λ (b : Bool). b || eqb t p) (member-zero t))
 
   inside : member m p ≡ true → p < 32
-  inside e = elim (dec_lt p 32) [ yes h ↦ h | no d ↦ absurd (false≢true (sym (member_past 32 m p small (omega (arith, d))) ∙ e)) ]
+  inside e = elim (dec_lt p 32) [
+    | yes h ↦ h
+    | no d ↦ absurd
+        (false≢true (sym (member_past 32 m p small (omega (arith, d))) ∙ e))
+  ]
 
   -- without p in the set they share none
   none : member m p ≡ false → (t : ℕ) → t < 32 → member x t ≡ false
@@ -37,7 +41,8 @@ module _ (m p : ℕ) (small : m < 2 ^ 32) (only : ℕ) (only-is : only ≡ set_o
     where
       go : (b : Bool) → member m p ≡ b → not (eqb x 0) ≡ b
       go false e = ap not (eq-eqb x 0 (empty 32 x (rw x-is (set_of-lt 32 _)) (none e)))
-      go true e = ap not (ne_eqb x 0 (λ z. false≢true (sym (member-zero p) ∙ ap (λ (k : ℕ). member k p) (sym z) ∙ there)))
+      go true e =
+          ap not (ne_eqb x 0 (λ z. false≢true (sym (member-zero p) ∙ ap (λ (k : ℕ). member k p) (sym z) ∙ there)))
         where
           there : member x p ≡ true
           there = shared p (inside e) ∙ ap (λ (b : Bool). b && eqb p p) e ∙ eq-eqb p p refl

@@ -20,14 +20,13 @@ use Rattle.table.specs.declared.refusal.Refusal.TheVariants.{
   ListForm,
 }
 use Rattle.table.specs.Verdict.{Verdict, require}
-use Rattle.table.specs.Table.{Table, table_of, counts_of, packed_length, header_width}
+use Rattle.table.specs.Table.{Table, table_of, counts_of, packed_length, header_width, is_initial}
 use Rattle.table.specs.Accept.{
   all,
   any,
   distinct,
   counts_fit,
   state_fits,
-  is_initial,
   step_fits,
   nodes_fit,
   states_verdict,
@@ -60,9 +59,11 @@ module _ (bytes : List ℕ) where
       → records_verdict T ≡ Ok tt
   records_pass T states initial ends once nodes =
       accepted_then (states_verdict T.props T.states) _
-      (accepted_then _ _ (accepted_require _ _ ((states_decided T).1 states)) (accepted_require _ _ ((initial_decided T).1 initial)))
+      (accepted_then _ _ (accepted_require _ _ ((states_decided T).1 states))
+      (accepted_require _ _ ((initial_decided T).1 initial)))
       (accepted_then (steps_verdict (length T.states) T.steps) _
-      (accepted_then _ _ (accepted_require _ _ ((ends_decided T).1 ends)) (accepted_require _ _ ((distinct_decided T).1 once)))
+      (accepted_then _ _ (accepted_require _ _ ((ends_decided T).1 ends))
+      (accepted_require _ _ ((distinct_decided T).1 once)))
       (accepted_require _ _ ((nodes_decided T).1 nodes)))
 
   there : table_verdict bytes ≡ Ok tt → IsTable bytes
@@ -90,7 +91,8 @@ module _ (bytes : List ℕ) where
       (λ j h. (w.from_state j h, w.to_state j h)) w.no_repeat w.each_node_fits in
       accepted_then _ _ (accepted_require Length _ ((at_most_decided header_width (length bytes)).1 t.header))
       (accepted_then _ _ (accepted_require CountsRefused _ ((counts_decided (counts_of bytes)).1 (counts_of_table t)))
-      (accepted_then _ _ (accepted_require Length _ ((same_decided (length bytes) (packed_length (counts_of bytes))).1 t.whole)) records))
+      (accepted_then _ _ (accepted_require Length _
+      ((same_decided (length bytes) (packed_length (counts_of bytes))).1 t.whole)) records))
 
   pub is_table : (table_verdict bytes ≡ Ok tt) ↔ IsTable bytes
   is_table = (there, back)
@@ -114,7 +116,8 @@ module _ (bytes : List ℕ) where
       (λ t3 e3. let inside = (ends_decided T).0 t3 in first_test RepeatedStep r once _ e3
       (λ f s. subst (TableRefused bytes) s (right, fit, some, inside, rule_fails once (distinct_decided T) f))
       (λ t4 e4. let last = last_test NodeRecord r (nodes_fit T.props 0 T.nodes) e4 in
-      subst (TableRefused bytes) last.1 (right, fit, some, inside, (distinct_decided T).0 t4, rule_fails _ (nodes_decided T) last.0)))))
+      subst (TableRefused bytes) last.1
+      (right, fit, some, inside, (distinct_decided T).0 t4, rule_fails _ (nodes_decided T) last.0)))))
 
   -- of bytes of the right length the verdict is that of the records
   pub right_verdict : RightLength bytes → table_verdict bytes ≡ records_verdict (table_of bytes)
@@ -153,7 +156,8 @@ module _ (bytes : List ℕ) where
 pub list_accepts : (e : ℕ) (list : List ℕ) (v : Verdict) → v ≡ list_verdict e list
     → (v ≡ Ok tt) ↔ ((length list ≡ e) × ((j : ℕ) → j < length list → get_or list j 0 ≤ 1))
 unfolding list_verdict
-list_accepts e list v here = (λ a. rule.0 (require_accepted _ _ (sym here ∙ a)), λ h. here ∙ accepted_require ListForm _ (rule.1 h))
+list_accepts e list v here =
+    (λ a. rule.0 (require_accepted _ _ (sym here ∙ a)), λ h. here ∙ accepted_require ListForm _ (rule.1 h))
   where
     rule : (eqb (length list) e && all (λ b. leb b 1) list ≡ true)
         ↔ ((length list ≡ e) × ((j : ℕ) → j < length list → get_or list j 0 ≤ 1))

@@ -19,7 +19,11 @@ use Rattle.table.proofs.All.{any_append, distinct_snoc}
 
 pub rows_none : Rows (replicate 32 0) []
 unfolding any
-rows_none = record { size = refl; words = λ s h. rw (get_or-replicate {A = ℕ} 32 s 0 0 h) (pow_pos 32); bits = λ s t hs ht. ap (λ (m : ℕ). member m t) (get_or-replicate 32 s 0 0 hs) ∙ member-zero t }
+rows_none = record {
+  size = refl;
+  words = λ s h. rw (get_or-replicate {A = ℕ} 32 s 0 0 h) (pow_pos 32);
+  bits = λ s t hs ht. ap (λ (m : ℕ). member m t) (get_or-replicate 32 s 0 0 hs) ∙ member-zero t;
+}
 
 or-false : (b : Bool) → b || false ≡ b
 or-false true = refl
@@ -33,19 +37,25 @@ module _ (rows : List ℕ) (xs : List Step) (g : Rows rows xs) (x : Step) (hf : 
       any_append (joins s t) xs (x ∷ [])
       ∙ ap (λ (b : Bool). any (joins s t) xs || b) (or-false (eqb s x.from && eqb t x.to))
 
-  same_row_lem : (t : ℕ) → t < 32 → member (get_or (rows_with rows x) x.from 0) t ≡ any (joins x.from t) (xs ++ (x ∷ []))
+  same_row_lem : (t : ℕ) → t < 32
+      → member (get_or (rows_with rows x) x.from 0) t ≡ any (joins x.from t) (xs ++ (x ∷ []))
   same_row_lem t h =
-      ap (λ (m : ℕ). member m t) (get_or-set_same rows x.from (set_of 32 (λ t. member (get_or rows x.from 0) t || eqb t x.to)) 0 (rw g.size hf))
+      ap (λ (m : ℕ). member m t) (get_or-set_same rows x.from
+      (set_of 32 (λ t. member (get_or rows x.from 0) t || eqb t x.to)) 0 (rw g.size hf))
       ∙ member-set_of 32 (λ t. member (get_or rows x.from 0) t || eqb t x.to) t
       ∙ ap (λ (b : Bool). b && (member (get_or rows x.from 0) t || eqb t x.to)) (lt-ltb t 32 h)
       ∙ ap (λ (b : Bool). b || eqb t x.to) (g.bits x.from t hf h)
-      ∙ sym (one_more x.from t ∙ ap (λ (b : Bool). any (joins x.from t) xs || (b && eqb t x.to)) (eq-eqb x.from x.from refl))
+      ∙ sym (one_more x.from t
+      ∙ ap (λ (b : Bool). any (joins x.from t) xs || (b && eqb t x.to)) (eq-eqb x.from x.from refl))
 
-  other_row : (s t : ℕ) → ¬ (s ≡ x.from) → s < 32 → t < 32 → member (get_or (rows_with rows x) s 0) t ≡ any (joins s t) (xs ++ (x ∷ []))
+  other_row : (s t : ℕ) → ¬ (s ≡ x.from) → s < 32 → t < 32
+      → member (get_or (rows_with rows x) s 0) t ≡ any (joins s t) (xs ++ (x ∷ []))
   other_row s t d hs h =
-      ap (λ (m : ℕ). member m t) (get_or-set_other rows x.from s (set_of 32 (λ t. member (get_or rows x.from 0) t || eqb t x.to)) 0 d)
+      ap (λ (m : ℕ). member m t) (get_or-set_other rows x.from s
+      (set_of 32 (λ t. member (get_or rows x.from 0) t || eqb t x.to)) 0 d)
       ∙ g.bits s t hs h
-      ∙ sym (one_more s t ∙ ap (λ (b : Bool). any (joins s t) xs || (b && eqb t x.to)) (ne_eqb s x.from d) ∙ or-false (any (joins s t) xs))
+      ∙ sym (one_more s t ∙ ap (λ (b : Bool). any (joins s t) xs || (b && eqb t x.to)) (ne_eqb s x.from d)
+      ∙ or-false (any (joins s t) xs))
 
   abbrev row_with : ℕ
   row_with = set_of 32 (λ t. member (get_or rows x.from 0) t || eqb t x.to)
@@ -54,7 +64,8 @@ module _ (rows : List ℕ) (xs : List Step) (g : Rows rows xs) (x : Step) (hf : 
   rows_more = record {
     size = length-set rows x.from (set_of 32 (λ t. member (get_or rows x.from 0) t || eqb t x.to)) ∙ g.size;
     words = λ s h. elim (ℕ_discrete s x.from) [
-      | yes e ↦ rw (e, get_or-set_same rows x.from row_with 0 (rw g.size hf)) (set_of-lt 32 (λ t. member (get_or rows x.from 0) t || eqb t x.to))
+      | yes e ↦ rw (e, get_or-set_same rows x.from row_with 0 (rw g.size hf))
+          (set_of-lt 32 (λ t. member (get_or rows x.from 0) t || eqb t x.to))
       | no d ↦ rw (get_or-set_other rows x.from s row_with 0 d) (g.words s h)
     ];
     bits = λ s t hs h. elim (ℕ_discrete s x.from) [

@@ -1,14 +1,24 @@
--- 01, "Numbers given", 2 to 9: which tables and lists are accepted, and the refusal of every other.
-use Rattle.std.specs.Prelude.{ℕ, suc, ◌^◌, Bool, true, false, not, ◌&&◌, ◌||◌, List, [], ◌∷◌, length, get_or, leb, ltb, eqb}
+-- Which tables and lists are accepted, and which of 2 to 9 every other is refused with: Specification, "Refusals".
+use Rattle.std.specs.Prelude.{ℕ, suc, ◌^◌, Bool, true, false, not, ◌&&◌, ◌||◌, List, [], ◌∷◌, length, leb, ltb, eqb}
 use Rattle.table.specs.declared.counts.Counts.{Counts}
 use Rattle.table.specs.declared.shape.Shape.{Shape}
 use Rattle.table.specs.declared.shape.Shape.TheVariants.{Constant, Proposition, Unary, Binary, Unknown}
 use Rattle.table.specs.declared.record.State.{State}
 use Rattle.table.specs.declared.record.Step.{Step}
 use Rattle.table.specs.declared.record.Node.{Node}
-use Rattle.table.specs.declared.refusal.Refusal.TheVariants.{Length, Counts as CountsRefused, StateRecord, NoInitial, StepEnd, RepeatedStep, NodeRecord, ListForm}
+use Rattle.table.specs.declared.refusal.Refusal.TheVariants.{
+  Length,
+  Counts as CountsRefused,
+  StateRecord,
+  NoInitial,
+  StepEnd,
+  RepeatedStep,
+  NodeRecord,
+  ListForm,
+}
+use Rattle.table.specs.Shape.{shape_of}
 use Rattle.table.specs.Verdict.{Verdict, require, ◌then◌}
-use Rattle.table.specs.Table.{Table, table_of, state_at, counts_of, packed_length, header_width}
+use Rattle.table.specs.Table.{Table, table_of, counts_of, packed_length, header_width, is_initial}
 
 unfoldable pub all {ℓ} : {A : Type ℓ} → (A → Bool) → List A → Bool
 all p [] = true
@@ -26,14 +36,6 @@ counts_fit c = leb 1 c.states && leb c.states 32 && leb c.steps 128 && leb 1 c.n
 abbrev pub state_fits : ℕ → State → Bool
 state_fits p s = leb s.initial 1 && ltb s.label (2 ^ p)
 
--- 5
-abbrev pub is_initial : State → Bool
-is_initial s = eqb s.initial 1
-
--- the same of the state with this number
-abbrev pub initial_at : Table → ℕ → Bool
-initial_at T s = is_initial (state_at T s)
-
 -- 6: both ends are states
 abbrev pub step_fits : ℕ → Step → Bool
 step_fits n x = ltb x.from n && ltb x.to n
@@ -49,30 +51,6 @@ same_step x y = joins x.from x.to y
 unfoldable pub distinct : List Step → Bool
 distinct [] = true
 distinct (x ∷ xs) = not (any (same_step x) xs) && distinct xs
-
--- 8: what the fields a and b of each kind are, from kind 0 on; every later kind is unknown
-abbrev pub shapes : List Shape
-shapes =
-    Constant
-    ∷ Constant
-    ∷ Proposition
-    ∷ Unary
-    ∷ Binary
-    ∷ Binary
-    ∷ Unary
-    ∷ Unary
-    ∷ Binary
-    ∷ Binary
-    ∷ Binary
-    ∷ Binary
-    ∷ Unary
-    ∷ Unary
-    ∷ Unary
-    ∷ Unary
-    ∷ []
-
-abbrev pub shape_of : ℕ → Shape
-shape_of kind = get_or shapes kind Unknown
 
 -- the fields of node i: a child is a node with a lower number, a proposition is below p, an unused field is 0
 abbrev pub fields_fit : Shape → ℕ → ℕ → ℕ → ℕ → Bool
@@ -101,7 +79,8 @@ abbrev pub nodes_verdict : ℕ → List Node → Verdict
 nodes_verdict p xs = require NodeRecord (nodes_fit p 0 xs)
 
 abbrev pub records_verdict : Table → Verdict
-records_verdict T = states_verdict T.props T.states then steps_verdict (length T.states) T.steps then nodes_verdict T.props T.nodes
+records_verdict T = states_verdict T.props T.states then steps_verdict (length T.states) T.steps
+    then nodes_verdict T.props T.nodes
 
 -- 2 to 8 in their order, of any bytes
 unfoldable pub table_verdict : List ℕ → Verdict

@@ -4,9 +4,10 @@ use Rattle.table.specs.declared.shape.Shape.{Shape}
 use Rattle.table.specs.declared.shape.Shape.TheVariants.{Constant, Proposition, Unary, Binary, Unknown}
 use Rattle.table.specs.declared.record.Node.{Node}
 use Rattle.table.specs.Table.{Table, table_of, counts_of, packed_length, header_width, state_at, step_at, node_at}
-use Rattle.table.specs.Accept.{shape_of}
+use Rattle.table.specs.Shape.{shape_of}
 
--- the fields of node i, of the shape of its kind: a child is a node with a lower number, a proposition is below p, an unused field is 0
+-- the fields of node i, of the shape of its kind: a child is a node with a lower number, a proposition is below p, an
+-- unused field is 0
 abbrev pub FieldsFit : Shape → ℕ → ℕ → ℕ → ℕ → Type 0
 FieldsFit Constant p i a b = (a ≡ 0) × (b ≡ 0)
 FieldsFit Proposition p i a b = (a < p) × (b ≡ 0)
@@ -45,11 +46,3 @@ pub record IsTable (bytes : List ℕ) : Type 0 where
   pub header : header_width ≤ length bytes
   pub whole : length bytes ≡ packed_length (counts_of bytes)
   pub wellformed : Wellformed (table_of bytes)
-
--- of accepted bytes: the counts are those of the records, and a table is at most 580 bytes
-pub record Packed (bytes : List ℕ) : Type 0 where
-  pub states_count : length (table_of bytes).states ≡ (counts_of bytes).states
-  pub steps_count : length (table_of bytes).steps ≡ (counts_of bytes).steps
-  pub nodes_count : length (table_of bytes).nodes ≡ (counts_of bytes).nodes
-  pub short : length bytes ≤ 580
-  pub table : Wellformed (table_of bytes)

@@ -1,11 +1,19 @@
--- What a node says of its children: the operator of each kind.
+-- What a node says of its children: the operator of each kind. Specification, "Rules".
 use Rattle.std.specs.Prelude.{ℕ, ◌%◌, true, false, cond, eqb, List, [], ◌∷◌, get_or}
 use Rattle.table.specs.declared.record.Node.{Node}
 use Rattle.table.specs.declared.operator.Family.TheVariants.{Release, Until, Eventually, Always}
 use Rattle.table.specs.declared.operator.Quantifier.{Quantifier}
 use Rattle.table.specs.declared.operator.Quantifier.TheVariants.{Every as every, Some as some}
 use Rattle.table.specs.declared.operator.Operator.{Operator}
-use Rattle.table.specs.declared.operator.Operator.TheVariants.{Constant as constant, Atom as atom, Negation as negation, Conjunction as conjunction, Disjunction as disjunction, Next as next, Fixpoint as fixpoint}
+use Rattle.table.specs.declared.operator.Operator.TheVariants.{
+  Constant as constant,
+  Atom as atom,
+  Negation as negation,
+  Conjunction as conjunction,
+  Disjunction as disjunction,
+  Next as next,
+  Fixpoint as fixpoint,
+}
 
 -- kinds 0 to 15
 abbrev pub operators : ℕ → ℕ → List Operator

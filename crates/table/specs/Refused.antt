@@ -42,7 +42,8 @@ abbrev pub SomeInitial : Table → Type 0
 SomeInitial T = (s : ℕ) × (s < length T.states) × ((state_at T s).initial ≡ 1)
 
 abbrev pub EndsAreStates : Table → Type 0
-EndsAreStates T = (j : ℕ) → j < length T.steps → ((step_at T j).from < length T.states) × ((step_at T j).to < length T.states)
+EndsAreStates T =
+    (j : ℕ) → j < length T.steps → ((step_at T j).from < length T.states) × ((step_at T j).to < length T.states)
 
 abbrev pub TableRefused : List ℕ → Refusal → Type 0
 TableRefused bytes Length =

@@ -1,8 +1,7 @@
 -- Sets of the first n states, read off the section of the states.
 use Rattle.std.specs.Prelude.{ℕ, ◌*◌, List, drop}
 use Rattle.sets.specs.Member.{member, set_of}
-use Rattle.table.specs.Table.{state_width, state_of}
-use Rattle.table.specs.Accept.{is_initial}
+use Rattle.table.specs.Table.{state_width, state_of, is_initial}
 
 -- the initial states
 abbrev pub initial_word : List ℕ → ℕ → ℕ

@@ -1,5 +1,6 @@
--- 01, "The packed table", with the prices of 02, A4: what the bytes stand for. Past the end of the bytes everything reads as 0.
-use Rattle.std.specs.Prelude.{ℕ, zero, suc, ◌+◌, ◌*◌, List, [], ◌∷◌, get_or, take, drop}
+-- The packed table: what its bytes stand for (Specification, "Step tables"). Past the end of the bytes everything
+-- reads as 0.
+use Rattle.std.specs.Prelude.{ℕ, zero, suc, ◌+◌, ◌*◌, Bool, List, [], ◌∷◌, get_or, take, drop, eqb}
 use Rattle.table.specs.declared.counts.Counts.{Counts}
 use Rattle.table.specs.declared.record.State.{State}
 use Rattle.table.specs.declared.record.Step.{Step}
@@ -27,7 +28,8 @@ three bytes = get_or bytes 0 0 ∷ get_or bytes 1 0 ∷ get_or bytes 2 0 ∷ []
 
 -- four bytes n, e, f, p
 abbrev pub counts_of : List ℕ → Counts
-counts_of bytes = record { states = get_or bytes 0 0; steps = get_or bytes 1 0; nodes = get_or bytes 2 0; props = get_or bytes 3 0 }
+counts_of bytes =
+    record { states = get_or bytes 0 0; steps = get_or bytes 1 0; nodes = get_or bytes 2 0; props = get_or bytes 3 0 }
 
 -- the length of a table of these counts
 abbrev pub packed_length : Counts → ℕ
@@ -55,12 +57,16 @@ abbrev pub states_part : List ℕ → List ℕ
 states_part bytes = take (state_width * (counts_of bytes).states) (drop header_width bytes)
 
 abbrev pub steps_part : List ℕ → List ℕ
-steps_part bytes = take (step_width * (counts_of bytes).steps) (drop (header_width + state_width * (counts_of bytes).states) bytes)
+steps_part bytes =
+    take (step_width * (counts_of bytes).steps) (drop (header_width + state_width * (counts_of bytes).states) bytes)
 
 abbrev pub nodes_part : List ℕ → List ℕ
-nodes_part bytes = take (node_width * (counts_of bytes).nodes) (drop (header_width + state_width * (counts_of bytes).states + step_width * (counts_of bytes).steps) bytes)
+nodes_part bytes =
+    take (node_width * (counts_of bytes).nodes)
+    (drop (header_width + state_width * (counts_of bytes).states + step_width * (counts_of bytes).steps) bytes)
 
--- A table: 01's n, e and f are the lengths of the three lists, p is `props`, and the last node is the root.
+-- A table. The numbers n of states, e of steps and f of nodes are the lengths of the three lists, p is `props`, and
+-- the last node is the root.
 pub record Table : Type 0 where
   pub states : List State
   pub steps : List Step
@@ -78,7 +84,8 @@ abbrev pub nodes_of : List ℕ → List Node
 nodes_of bytes = records node_of node_width (counts_of bytes).nodes (nodes_part bytes)
 
 abbrev pub table_of : List ℕ → Table
-table_of bytes = record { states = states_of bytes; steps = steps_of bytes; nodes = nodes_of bytes; props = (counts_of bytes).props }
+table_of bytes =
+    record { states = states_of bytes; steps = steps_of bytes; nodes = nodes_of bytes; props = (counts_of bytes).props }
 
 -- the record past the end of its section: all zeros
 abbrev pub zero_state : State
@@ -99,3 +106,10 @@ step_at T j = get_or T.steps j zero_step
 
 abbrev pub node_at : Table → ℕ → Node
 node_at T i = get_or T.nodes i zero_node
+
+-- whether a state is initial, and the same of the state with this number
+abbrev pub is_initial : State → Bool
+is_initial s = eqb s.initial 1
+
+abbrev pub initial_at : Table → ℕ → Bool
+initial_at T s = is_initial (state_at T s)

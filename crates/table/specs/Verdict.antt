@@ -1,7 +1,22 @@
--- 01, "Numbers given": the number of each refusal, and how tests are made one after the other.
+-- The number of each refusal, and how tests are made one after the other: Specification, "Refusals".
 use Rattle.std.specs.Prelude.{ℕ, Bool, true, false, Result, Ok, Err}
 use Rattle.table.specs.declared.refusal.Refusal.{Refusal}
-use Rattle.table.specs.declared.refusal.Refusal.TheVariants.{SheetForm, Length, Counts, StateRecord, NoInitial, StepEnd, RepeatedStep, NodeRecord, ListForm, ShortBuffer, NotTotal, NoInitialKept, RootFails, UnreachedStep}
+use Rattle.table.specs.declared.refusal.Refusal.TheVariants.{
+  SheetForm,
+  Length,
+  Counts,
+  StateRecord,
+  NoInitial,
+  StepEnd,
+  RepeatedStep,
+  NodeRecord,
+  ListForm,
+  ShortBuffer,
+  NotTotal,
+  NoInitialKept,
+  RootFails,
+  UnreachedStep,
+}
 
 -- the answer of a test: accepted, or refused and why
 abbrev pub Verdict : Type 0

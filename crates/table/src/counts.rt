@@ -3,10 +3,12 @@ ghost use Rattle.std.specs.Prelude.{◌≡◌, ◌<◌};
 ghost use Rattle.table.specs.Table.{counts_of, packed_length};
 ghost use Rattle.table.specs.Accept.{counts_fit};
 
+use crate::limits::{MOST_NODES, MOST_PROPS, MOST_STATES, MOST_STEPS};
 use crate::part::byte_at;
 use crate::width::{HEADER_WIDTH, RECORD_WIDTH};
 
-#[derive(Clone, Copy)]
+/// How many states, steps, nodes and propositions a table has, as they are written: each may be out of its range.
+#[derive(Clone, Copy, Debug, PartialEq, Eq)]
 pub struct Counts {
     pub states: usize,
     pub steps: usize,
@@ -14,6 +16,7 @@ pub struct Counts {
     pub props: usize,
 }
 
+// A count that the bytes do not reach is 0.
 pub fn counts_of(table: &[u8]) -> Counts
     ensures { result ≡ counts_of table.now }
 {
@@ -25,7 +28,7 @@ pub fn counts_of(table: &[u8]) -> Counts
     }
 }
 
-// How long a table of these counts is.
+/// How many bytes a table of these counts has, its header included.
 pub fn packed_length(c: Counts) -> usize
     requires { (c.states < 256) × ((c.steps < 256) × (c.nodes < 256)) }
     ensures { result ≡ packed_length c }
@@ -33,14 +36,14 @@ pub fn packed_length(c: Counts) -> usize
     HEADER_WIDTH + RECORD_WIDTH * c.states + RECORD_WIDTH * c.steps + RECORD_WIDTH * c.nodes
 }
 
-/// Whether each count is in its range.
+// Whether each count is in its range.
 pub fn counts_fit(c: Counts) -> bool
     ensures { result ≡ counts_fit c }
 {
     1 <= c.states
-        && c.states <= 32
-        && c.steps <= 128
+        && c.states <= MOST_STATES
+        && c.steps <= MOST_STEPS
         && 1 <= c.nodes
-        && c.nodes <= 32
-        && c.props <= 16
+        && c.nodes <= MOST_NODES
+        && c.props <= MOST_PROPS
 }

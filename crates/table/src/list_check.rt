@@ -4,7 +4,7 @@ ghost use Rattle.table.specs.Accept.{list_verdict};
 
 use crate::refusal::Refusal;
 
-// A list is e bytes, each 0 or 1.
+/// The test of a kept list, 9: a byte for each of e steps, 1 for a step that is kept and 0 for one that is struck.
 pub fn check_list(list: &[u8], e: usize) -> Result<(), Refusal>
     ensures value { result ≡ list_verdict e list.now }
     ensures accepted { (result ≡ Ok tt)

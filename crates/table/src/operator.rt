@@ -5,8 +5,9 @@ ghost use Rattle.table.specs.Operator.{quantifier_at, operator_of};
 
 use crate::record::Node;
 
-// What a fixed-point kind says along a path: a V b, a U b, F b or G b. Each has levels, and differs in what a level joins.
-#[derive(Clone, Copy)]
+/// What a fixed-point kind says along a path: a V b (release), a U b (until), F b (eventually) or G b (always).
+// Each has levels, and differs in what a level joins.
+#[derive(Clone, Copy, Debug, PartialEq, Eq)]
 pub enum Family {
     Release,
     Until,
@@ -14,16 +15,20 @@ pub enum Family {
     Always,
 }
 
-// The path quantifier: on every path, or on some path.
-#[derive(Clone, Copy, PartialEq, Eq)]
+/// The path quantifier: on every path, or on some path.
+#[derive(Clone, Copy, Debug, PartialEq, Eq)]
 pub enum Quantifier {
     Every,
     Some,
 }
 
-// The children stand by their numbers, as in the table that the caller lends: there is no heap to hold a tree. A fixed point has two: level 0 is the set
-// of the second. The one child of F and G stands in both places.
-#[derive(Clone, Copy)]
+/// A node read by its kind, 0 to 15 in order. An atom has the number of a proposition, and a child the number of its
+/// node.
+///
+/// A fixed point has two children: a and b of a V b and a U b. The one child of F and G stands in both places.
+// The children stand by their numbers, as in the table that the caller lends: there is no heap to hold a tree. Level 0
+// of a fixed point is the set of the second child.
+#[derive(Clone, Copy, Debug, PartialEq, Eq)]
 pub enum Operator {
     Constant(bool),
     Atom(usize),
@@ -54,7 +59,8 @@ impl From<Node> for Operator {
     }
 }
 
-// From kind 6 on, an even kind is of every path and an odd one of some path. No `From`: a number is not always a kind that has a quantifier.
+// From kind 6 on, an even kind is of every path and an odd one of some path. No `From`: a number is not always a kind
+// that has a quantifier.
 fn quantifier_of(kind: usize) -> Quantifier
     ensures { result ≡ quantifier_at kind }
 {
@@ -66,7 +72,7 @@ fn quantifier_of(kind: usize) -> Quantifier
 }
 
 // The family of a kind from 8 on. No `From`, as above; a number below 8 or above 15 gets one too.
-pub fn family_of(kind: usize) -> Family
+fn family_of(kind: usize) -> Family
     ensures { result ≡ family_of kind }
 {
     match kind {
@@ -77,9 +83,9 @@ pub fn family_of(kind: usize) -> Family
     }
 }
 
-// The child whose set is level 0: of kinds 12 to 15, which have one child, that one. By the number: of the operators four have no second child to
-// give.
-pub fn second_child(x: Node) -> usize
+// The child whose set is level 0: of kinds 12 to 15, which have one child, that one. By the number: of the operators
+// four have no second child to give.
+fn second_child(x: Node) -> usize
     ensures { result ≡ second_of x }
 {
     if x.kind < 12 { x.b } else { x.a }

@@ -1,6 +1,7 @@
 // Reading bytes and parts of a slice at any place: past the end there is nothing, and a byte there reads as 0.
 ghost use Rattle.std.specs.Prelude.{◌≡◌, get_or, take, drop};
 
+// The byte at a place, and 0 past the end.
 pub fn byte_at(bytes: &[u8], at: usize) -> u8
     ensures { result ≡ get_or bytes.now at 0 }
 {

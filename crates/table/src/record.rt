@@ -5,20 +5,24 @@ ghost use Rattle.table.specs.Table.{record_width, three, state_of, step_of, node
 use crate::part::byte_at;
 use crate::width::RECORD_WIDTH;
 
-#[derive(Clone, Copy)]
+/// A state: `initial` is 1 for an initial state and 0 for another, and bit p of `label` says whether it has
+/// proposition p.
+#[derive(Clone, Copy, Debug, PartialEq, Eq)]
 pub struct State {
     pub initial: usize,
     pub label: usize,
 }
 
-#[derive(Clone, Copy)]
+/// A step: the numbers of the states that it leaves and enters, and the price of striking it.
+#[derive(Clone, Copy, Debug, PartialEq, Eq)]
 pub struct Step {
     pub from: usize,
     pub to: usize,
     pub price: usize,
 }
 
-#[derive(Clone, Copy)]
+/// A node of the rule: its kind, and the fields a and b, which are children, a proposition or unused by the kind.
+#[derive(Clone, Copy, Debug, PartialEq, Eq)]
 pub struct Node {
     pub kind: usize,
     pub a: usize,
@@ -87,6 +91,7 @@ fn bytes_at(section: &[u8], i: usize) -> [u8; 3]
     [section[at], section[at + 1], section[at + 2]]
 }
 
+/// Record i of a section. Past the section's end it is all zeros.
 pub fn record_at<R: From<[u8; 3]>>(section: &[u8], i: usize) -> R
     ensures { R.from_gives (three (drop (record_width * i) section.now)) result }
 {

@@ -5,7 +5,10 @@ ghost use Rattle.table.specs.Verdict.{refusal_number, verdict_number};
 use std::error::Error;
 use std::fmt;
 
-// Why a call refuses its input, in the order of the numbers: 1 to 13, and 16, since 14 and 15 are Repair's none and spent.
+/// Why a call refuses its input, in the order of the numbers: 1 to 13, and 16, since 14 and 15 are Repair's none and
+/// spent.
+///
+/// `u32::from` gives the number, and `Display` says what is wrong.
 #[derive(Clone, Copy, Debug, PartialEq, Eq)]
 pub enum Refusal {
     SheetForm = 1,
@@ -61,7 +64,8 @@ impl fmt::Display for Refusal {
 
 impl Error for Refusal {}
 
-// 0 where nothing is refused, else the refusal's number. No `From`, for neither Result nor u32 is a type of this crate.
+/// 0 where nothing is refused, else the refusal's number.
+// No `From`, for neither Result nor u32 is a type of this crate.
 pub fn verdict_number<T: Copy>(answer: Result<T, Refusal>) -> u32
     ensures { result ≡ verdict_number answer }
 {

@@ -1,5 +1,5 @@
-// The sections of a packed table, each as a part of the caller's slice. Whoever goes through one is handed its count too: of any bytes
-// a section may be cut short, and what is missing reads as zeros.
+// The sections of a packed table, each as a part of the caller's slice. Whoever goes through one is handed its count
+// too: of any bytes a section may be cut short, and what is missing reads as zeros.
 ghost use Rattle.std.specs.Prelude.{◌≡◌};
 ghost use Rattle.table.specs.Table.{counts_of, states_part, steps_part, nodes_part};
 
@@ -7,7 +7,7 @@ use crate::counts::Counts;
 use crate::part::part_of;
 use crate::width::{HEADER_WIDTH, RECORD_WIDTH};
 
-/// The bytes of the state records, for whoever has read the counts; likewise below.
+// The bytes of the state records, for whoever has read the counts; likewise below.
 pub fn state_section(table: &[u8], c: Counts) -> &[u8]
     requires { c ≡ counts_of table.now }
     ensures { result.now ≡ states_part table.now }
@@ -15,7 +15,7 @@ pub fn state_section(table: &[u8], c: Counts) -> &[u8]
     part_of(table, HEADER_WIDTH, RECORD_WIDTH * c.states)
 }
 
-/// The bytes of the step records.
+// The bytes of the step records.
 pub fn step_section(table: &[u8], c: Counts) -> &[u8]
     requires { c ≡ counts_of table.now }
     ensures { result.now ≡ steps_part table.now }
@@ -27,7 +27,7 @@ pub fn step_section(table: &[u8], c: Counts) -> &[u8]
     )
 }
 
-/// The bytes of the node records.
+// The bytes of the node records.
 pub fn node_section(table: &[u8], c: Counts) -> &[u8]
     requires { c ≡ counts_of table.now }
     ensures { result.now ≡ nodes_part table.now }

@@ -1,9 +1,9 @@
 // What a node of a kind has in its fields.
 ghost use Rattle.std.specs.Prelude.{◌≡◌};
-ghost use Rattle.table.specs.Accept.{shape_of};
+ghost use Rattle.table.specs.Shape.{shape_of};
 
-// What the fields a and b of a kind are: unused, a proposition, one child or two. `Unknown` is no Option: the definitions' list of shapes ends in it, and
-// of each shape, this one too, it is said which fields fit.
+// What the fields a and b of a kind are: unused, a proposition, one child or two. `Unknown` is no Option: the
+// definitions' list of shapes ends in it, and of each shape, this one too, it is said which fields fit.
 #[derive(Clone, Copy)]
 pub enum Shape {
     Constant,

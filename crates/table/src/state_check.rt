@@ -1,5 +1,5 @@
-// The tests of the state records. Here and in the tests of the steps and nodes as many records are read as the count says, whatever
-// the section's length: so the definitions read them (`records`).
+// The tests of the state records. Here and in the tests of the steps and nodes as many records are read as the count
+// says, whatever the section's length: so the definitions read them (`records`).
 ghost use Rattle.std.specs.Prelude.{◌≡◌, ◌≤◌};
 ghost use Rattle.table.specs.Table.{records, state_of, state_width};
 ghost use Rattle.table.specs.Accept.{state_fits, states_verdict};

@@ -5,6 +5,7 @@ ghost use Rattle.table.specs.StateSets.{initial_word, labelled_word};
 
 use crate::record::{State, record_at};
 
+/// The initial states among the first n of a section of states, as a set.
 pub fn initial_states(states: &[u8], n: usize) -> u32
     requires { n ≤ 32 }
     ensures { result ≡ initial_word states.now n }
@@ -19,7 +20,7 @@ fn has_only(set: u32, only: u32) -> bool
     sets::intersection(set, only) != 0
 }
 
-// The states that have proposition p in their label.
+/// The states among the first n of a section of states that have proposition p in their label, as a set.
 pub fn labelled_states(states: &[u8], n: usize, p: usize) -> u32
     requires { n ≤ 32 }
     ensures { result ≡ labelled_word states.now n p }

@@ -1,5 +1,5 @@
 // The tests of the step records.
-ghost use Rattle.std.specs.Prelude.{◌≡◌, false, ◌≤◌, ◌<◌, ◌+◌};
+ghost use Rattle.std.specs.Prelude.{◌≡◌, false, ◌≤◌, ◌<◌};
 ghost use Rattle.table.specs.Table.{records, step_of, step_width};
 ghost use Rattle.table.specs.Accept.{step_fits, steps_verdict};
 
@@ -13,8 +13,8 @@ fn step_fits(n: usize, x: Step) -> bool
     x.from < n && x.to < n
 }
 
-// One pass: the first step with an end that is no state is refused at once. Which steps were given is kept in a table of bits, a
-// row for each state and a bit for each end, so that a step given twice is found without comparing pairs.
+// One pass: the first step with an end that is no state is refused at once. Which steps were given is kept in a table
+// of bits, a row for each state and a bit for each end, so that a step given twice is found without comparing pairs.
 pub fn check_steps(section: &[u8], e: usize, n: usize) -> Result<(), Refusal>
     requires { n ≤ 32 }
     ensures { result ≡ steps_verdict n (records step_of step_width e section.now) }

@@ -1,5 +1,5 @@
-// How many vectors there were and how many agreed, by expected number and in all, and with how many accepted tables the count of
-// variables agreed.
+// How many vectors there were and how many agreed, by expected number and in all, and with how many accepted tables the
+// count of variables agreed.
 #[derive(Clone, Copy, Default)]
 pub struct Count {
     pub vectors: u64,
@@ -24,7 +24,8 @@ pub struct Tally {
 }
 
 impl Tally {
-    // Counts one vector of this expected number. None where the number is above 15: no refusal of a table or a list has it.
+    // Counts one vector of this expected number. None where the number is above 15: no refusal of a table or a list has
+    // it.
     pub fn add_vector(&mut self, number: usize, agrees: bool) -> Option<()> {
         self.by_number.get_mut(number)?.add(agrees);
         self.all.add(agrees);

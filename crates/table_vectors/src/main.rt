@@ -1,9 +1,10 @@
-// Runs the check of the packed table, and the count of its circuit's variables, on the vectors of standard input. Prints
-// how many there are of each expected number, and with how many of those the code agrees. Stops at a line out of form,
-// and says so, as where the input is longer than there is room for.
+// Runs the check of the packed table, and the count of its circuit's variables, on the vectors of standard input.
+// Prints how many there are of each expected number, and with how many of those the code agrees. Stops at a line out of
+// form, and says so, as where the input is longer than there is room for.
 //
-// A line: kind (table or list), expected number, count (of an accepted table its variables, of a list its table's steps),
-// and the bytes in hex. Tabs stand between, `-` for empty or none, and a line of names comes first.
+// A line: kind (table or list), expected number, count (of an accepted table its variables, of a list its table's
+// steps), and the bytes in hex. Tabs stand between, `-` for empty or none, and a line of names comes first.
+// `tests/table_vectors` draws the lines from the vectors of the repository.
 #![tactic(auto)]
 
 mod count;

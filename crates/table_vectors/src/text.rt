@@ -13,8 +13,8 @@ fn digit(byte: u8) -> Option<u8>
     }
 }
 
-// The number in decimal digits, below 1,000,000. None where it is not below that, or a byte is no such digit. `str::parse` wants a &str,
-// and takes a `+` and larger numbers.
+// The number in decimal digits, below 1,000,000. None where it is not below that, or a byte is no such digit.
+// `str::parse` wants a &str, and takes a `+` and larger numbers.
 pub fn number_of(text: &[u8]) -> Option<usize> {
     let mut value: usize = 0;
     for byte in text {
@@ -27,8 +27,8 @@ pub fn number_of(text: &[u8]) -> Option<usize> {
     Some(value)
 }
 
-// The bytes that the text has in pairs of hex digits, into out, and how many. Stops at what is no digit, and where out is full: so they are counted as they
-// come.
+// The bytes that the text has in pairs of hex digits, into out, and how many. Stops at what is no digit, and where out
+// is full: so they are counted as they come.
 pub fn bytes_of(text: &[u8], out: &mut [u8]) -> usize
     ensures { IsPrefixLen result out.new }
 {

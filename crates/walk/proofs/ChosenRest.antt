@@ -19,7 +19,7 @@ use Rattle.rows.specs.Words.{row_at}
 use Rattle.propagate.specs.Memory.{Memory, memory, node_place, kept_place}
 use Rattle.readers.specs.Reads.{reads_steps, AgreeAt}
 use Rattle.closure.specs.Knowledge.{Knowledge, knowledge, Sized, second_child, level_base}
-use Rattle.closure.specs.Inside.{Inside}
+use Rattle.closure.specs.KnowledgeIn.{KnowledgeIn}
 use Rattle.closure.specs.Advance.{ForcedBy}
 use Rattle.events.specs.Watched.{SameKept, SameCell, More, RestBut}
 use Rattle.closure.proofs.Ends.{target_true}
@@ -40,10 +40,17 @@ row_within : (r q : Row) → q ≡ r → Within r q
 row_within r q e s sign k = row_agrees r q e s sign ∙ k
 
 -- the steps that are known are of the table
-pub steps_of_table : (T : Table) → Wellformed T → (M : Memory) (P : List (Literal Var)) → Inside T (ForcedBy T P) (knowledge T M) → OfTable T (knowledge T M)
-steps_of_table T wf M P inside s h t e = let x = inside.steps s h true t e in (target_true T wf s t).1 (x.0, x.1, x.2, x.3)
+pub steps_of_table : (T : Table) → Wellformed T → (M : Memory) (P : List (Literal Var))
+    → KnowledgeIn T (ForcedBy T P) (knowledge T M) → OfTable T (knowledge T M)
+steps_of_table T wf M P inside s h t e = let x = inside.steps s h true t e in (target_true T wf s t).1 (
+  x.0,
+  x.1,
+  x.2,
+  x.3,
+)
 
-module _ (T : Table) (wf : Wellformed T) (rows words : List ℕ) (sized : Sized T (memory rows words)) (sign : Bool) (j : ℕ) (inside : j < length T.steps) where
+module _ (T : Table) (wf : Wellformed T) (rows words : List ℕ) (sized : Sized T (memory rows words)) (sign : Bool)
+    (j : ℕ) (inside : j < length T.steps) where
   abbrev next : List ℕ
   next = with_step T rows sign j
 
@@ -58,7 +65,8 @@ module _ (T : Table) (wf : Wellformed T) (rows words : List ℕ) (sized : Sized 
 
   levels_same : (i m : ℕ) → K'.levels i m ≡ K.levels i m
   levels_same i m = λ k. cond (eqb m 0) (other (node_place (second_child (operator_of (node_at T i)))) (omega arith) k)
-      (cond (eqb m (length T.states)) (other (node_place i) (omega arith) k) (row_at words (level_base T i + 2 * (m - 1))))
+      (cond (eqb m (length T.states)) (other (node_place i) (omega arith) k)
+      (row_at words (level_base T i + 2 * (m - 1))))
 
   bits_come : More K K'
   bits_come = record {
@@ -70,7 +78,8 @@ module _ (T : Table) (wf : Wellformed T) (rows words : List ℕ) (sized : Sized 
   -- a state that is not in the set is another than the step's
   apart : (s : ℕ) → member (changed_by T j) s ≡ false → K'.steps s ≡ K.steps s
   apart s out = step_row_other T wf rows words sized sign j inside s
-      (λ e. true≢false (sym (more_new 0 (step_at T j).from (omega (arith, wf.from_state j inside, wf.few_states))) ∙ ap (member (changed_by T j)) (sym e) ∙ out))
+      (λ e. true≢false (sym (more_new 0 (step_at T j).from (omega (arith, wf.from_state j inside, wf.few_states)))
+      ∙ ap (member (changed_by T j)) (sym e) ∙ out))
 
   same_kept : (s : ℕ) → member (changed_by T j) s ≡ false → SameKept T K K' s
   same_kept s out = record {
@@ -79,7 +88,8 @@ module _ (T : Table) (wf : Wellformed T) (rows words : List ℕ) (sized : Sized 
     ends = λ t m. row_agrees _ _ (other kept_place (omega arith)) t;
   }
 
-  same_cell : (i m : ℕ) (o : Operator) (s : ℕ) → (reads_steps o ≡ true → member (changed_by T j) s ≡ false) → SameCell T K K' i m o s
+  same_cell : (i m : ℕ) (o : Operator) (s : ℕ) → (reads_steps o ≡ true → member (changed_by T j) s ≡ false)
+      → SameCell T K K' i m o s
   same_cell i m o s out = record {
     own = λ plain. row_agrees _ _ (other (node_place i) (omega arith)) s;
     child = λ c e. row_agrees _ _ (other (node_place c) (omega arith)) s;
@@ -88,13 +98,15 @@ module _ (T : Table) (wf : Wellformed T) (rows words : List ℕ) (sized : Sized 
     levels = λ e. (row_agrees _ _ (levels_same i (suc m)) s, λ t l. row_agrees _ _ (levels_same i m) t);
   }
 
-  pub chosen_rest : (P : List (Literal Var)) → Inside T (ForcedBy T P) K → Resting T (memory rows words) → RestBut T (changed_by T j) (knowledge T (memory (with_step T rows sign j) words))
+  pub chosen_rest : (P : List (Literal Var)) → KnowledgeIn T (ForcedBy T P) K → Resting T (memory rows words)
+      → RestBut T (changed_by T j) (knowledge T (memory (with_step T rows sign j) words))
   chosen_rest P known_in rest = record {
     kept = λ s h out. frame_kept T K K' bits_come s (same_kept s out) (rest.kept s h (member-zero s));
     nodes = λ i l s h out.
         let o = operator_of (node_at T i) in
         cells_of T (memory next words) i o s wf.some_state (λ m few.
-        frame_cell T wf K K' (small_knowledge sized) (small_knowledge (chosen_sized T wf rows words sized sign j inside))
+        frame_cell T wf K K' (small_knowledge sized)
+        (small_knowledge (chosen_sized T wf rows words sized sign j inside))
         (steps_of_table T wf (memory rows words) P known_in) bits_come i m s h o (same_cell i m o s out)
         (cell_of T K i m o s few (rest.nodes i l s h (λ r. member-zero s))));
   }

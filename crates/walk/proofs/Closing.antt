@@ -8,7 +8,7 @@ use lib.ListN.{length}
 use Rattle.table.specs.Table.{Table}
 use Rattle.table.specs.Facts.{Wellformed}
 use Rattle.circuit.specs.Logic.{Literal}
-use Rattle.closure.specs.Closure.{Marks, mark_at, known, Progress, clash, marked}
+use Rattle.closure.specs.Computed.{Marks, mark_at, known, Progress, clash, marked}
 use Rattle.propagate.specs.Memory.{Memory}
 use Rattle.std.specs.Prelude.{Option, Some, None, is_some, unwrap_or}
 use Rattle.closure.specs.Closes.{step_known, is_failed, settled_of, Closes}

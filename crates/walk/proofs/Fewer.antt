@@ -9,7 +9,7 @@ use Rattle.sets.proofs.SetOf.{count_of_less}
 use Rattle.table.specs.Table.{Table}
 use Rattle.table.specs.Facts.{Wellformed}
 use Rattle.circuit.specs.Logic.{Literal}
-use Rattle.closure.specs.Closure.{Mark, Marks, mark_at, is_known}
+use Rattle.closure.specs.Computed.{Mark, Marks, mark_at, is_known}
 use Rattle.closure.proofs.Marks.{known_of}
 use Rattle.search.specs.StepRows.{is_unsettled}
 use Rattle.walk.specs.Stands.{StandsAt}
@@ -22,7 +22,8 @@ abbrev pub unsettled_steps : Table → List ℕ → ℕ
 unsettled_steps T rows = count_of (length T.steps) (is_unsettled T rows)
 
 -- the step that was unsettled is settled by its choice, and settled ones stay so
-module _ (T : Table) (wf : Wellformed T) (j k : ℕ) (rows next : List ℕ) (P : List (Literal ℕ)) (m n : Marks) (sign : Bool)
+module _ (T : Table) (wf : Wellformed T) (j k : ℕ) (rows next : List ℕ) (P : List (Literal ℕ)) (m n : Marks)
+    (sign : Bool)
     (at : StandsAt T j rows P m) (to : StandsAt T k next (record { sign = sign; var = j } ∷ P) n) where
   unsettled_at : (i : ℕ) → i < length T.steps → is_unsettled T rows i ≡ not (is_known (mark_at m i))
   unsettled_at = unsettled_mark T rows m at.exact

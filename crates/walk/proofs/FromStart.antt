@@ -8,15 +8,15 @@ use Rattle.table.specs.Table.{Table}
 use Rattle.table.specs.Facts.{Wellformed}
 use Rattle.ctl.proofs.Tabulate.{length_tabulate}
 use Rattle.closure.specs.Closes.{Closes, is_failed}
-use Rattle.closure.specs.Closure.{settled_below}
+use Rattle.closure.specs.Computed.{settled_below}
 use Rattle.propagate.specs.Memory.{Memory, memory}
 use Rattle.std.specs.Prelude.{Option, Ok}
-use Rattle.walk.specs.declared.reach.Reached.{Reached}
-use Rattle.walk.specs.declared.reach.Reached.TheVariants.{Ended, Unsettled}
+use Rattle.walk.specs.declared.assess.Assessed.{Assessed}
+use Rattle.walk.specs.declared.assess.Assessed.TheVariants.{Ended, Unsettled}
 use Rattle.search.specs.Search.{unfound, search, outcome_of}
 use Rattle.search.specs.TableSearch.{table_search, search_under}
 use Rattle.search.specs.Answer.{answer_of, list_after}
-use Rattle.search.specs.Finds.{Held, Unfound, Finished, finished, written, Gives}
+use Rattle.search.specs.Finds.{Held, NoFind, Finished, finished, written, Gives}
 use Rattle.search.specs.Fine.{closure_of}
 use Rattle.search.proofs.ClosureRight.{closure-is_right}
 use Rattle.walk.specs.Stands.{StandsAt, GoesOn, Resting, Somewhere, GivesFrom, Comes, ComesOf, walk_from, search_from}
@@ -47,21 +47,22 @@ module _ (T : Table) (cap : ℕ) where
     start_list list = gives_list T cap first (search_from T cap 0 [] unfound 0) bytes r list g
         ∙ sym (λ i. list_after T (as_search i) list)
 
-module _ (T : Table) (wf : Wellformed T) (rows words : List ℕ) (c : Option ℕ) (before bytes : List ℕ) (reached : Reached) (gives : ComesOf T c Unfound rows before bytes reached)
+module _ (T : Table) (wf : Wellformed T) (rows words : List ℕ) (c : Option ℕ) (before bytes : List ℕ)
+    (assessed : Assessed) (gives : ComesOf T c NoFind rows before bytes assessed)
     (closes : Closes T [] c (memory rows words)) (rests : is_failed c ≡ false → Resting T (memory rows words)) where
   abbrev M : Memory
   M = memory rows words
 
-  comes : Comes T Unfound M bytes [] unfound reached
+  comes : Comes T NoFind M bytes [] unfound assessed
   comes = gives words [] unfound (closure-is_right T wf).fine_none closes rests tt
 
-  -- an end was reached
-  pub start_ended : (cap : ℕ) (after : Held) → reached ≡ Ended after
+  -- the tries of P have ended
+  pub start_ended : (cap : ℕ) (after : Held) → assessed ≡ Ended after
       → Gives T cap (search_from T cap 0 [] unfound 0) bytes
       (Ok (record { best = after; choices = record { made = 0; cap = cap } }))
-  start_ended cap after told = go (subst (Comes T Unfound M bytes [] unfound) told comes)
+  start_ended cap after told = go (subst (Comes T NoFind M bytes [] unfound) told comes)
     where
-      go : Comes T Unfound M bytes [] unfound (Ended after)
+      go : Comes T NoFind M bytes [] unfound (Ended after)
           → Gives T cap (search_from T cap 0 [] unfound 0) bytes
           (Ok (record { best = after; choices = record { made = 0; cap = cap } }))
       go (b', stores, same) =
@@ -69,21 +70,22 @@ module _ (T : Table) (wf : Wellformed T) (rows words : List ℕ) (c : Option ℕ
           (same cap 0 0 (omega arith)) (stores, (refl, refl))
 
   -- or a step that is unsettled
-  module _ (k : ℕ) (told : reached ≡ Unsettled k) where
-    there : Comes T Unfound M bytes [] unfound (Unsettled k)
-    there = subst (Comes T Unfound M bytes [] unfound) told comes
+  module _ (k : ℕ) (told : assessed ≡ Unsettled k) where
+    there : Comes T NoFind M bytes [] unfound (Unsettled k)
+    there = subst (Comes T NoFind M bytes [] unfound) told comes
 
     pub start_rests : Resting T M
     start_rests = there.3
 
-    pub start_stands : Somewhere (GoesOn T k M Unfound bytes)
+    pub start_stands : Somewhere (GoesOn T k M NoFind bytes)
     start_stands = ([], there.0, unfound, there.1)
 
     pub start_onward : (cap : ℕ) (after : List ℕ) (r : Finished)
-        → GivesFrom (GoesOn T k M Unfound bytes) T cap (λ R n b. walk_from T cap k R n b 0) after r
+        → GivesFrom (GoesOn T k M NoFind bytes) T cap (λ R n b. walk_from T cap k R n b 0) after r
         → Gives T cap (search_from T cap 0 [] unfound 0) after r
     start_onward cap after r rest =
         let s : StandsAt T k M.rows [] there.0 = there.1.stands in
         gives_same T cap after r
-        (search_marked T cap 0 [] unfound 0 s.closed there.2 ∙ walk_passed T cap [] there.0 unfound 0 0 k (omega arith) (omega (arith, s.inside)) s.settled)
+        (search_marked T cap 0 [] unfound 0 s.closed there.2
+        ∙ walk_passed T cap [] there.0 unfound 0 0 k (omega arith) (omega (arith, s.inside)) s.settled)
         (rest [] there.0 unfound there.1)

@@ -12,16 +12,17 @@ use Rattle.search.specs.declared.choices.Choices.{Choices}
 use Rattle.search.specs.declared.answer.Answer.TheVariants.{Found, None, Spent}
 use Rattle.search.specs.Search.{Best, unfound, find, undercuts, Walked, passed, cut, outcome_of}
 use Rattle.search.specs.Answer.{answer_of, list_after}
-use Rattle.search.specs.Finds.{Held, Unfound, Cheapest, Finished, beats, finished, written, Stores, Gives}
+use Rattle.search.specs.Finds.{Held, NoFind, LeastPrice, Finished, beats, finished, written, Stores, Gives}
 use Rattle.search.proofs.Step.{and_then}
 
 module _ (T : Table) where
   -- the same prices undercut it
-  pub stored-beats : (b : Best) (best : Held) (bytes : List ℕ) (price : ℕ) → Stores T b best bytes → beats price best ≡ undercuts price b
-  stored-beats unfound Unfound bytes price h = refl
-  stored-beats unfound (Cheapest q) bytes price h = absurd h
-  stored-beats (find m p) Unfound bytes price h = absurd h
-  stored-beats (find m p) (Cheapest q) bytes price h = ap (ltb price) h.0
+  pub stored-beats : (b : Best) (best : Held) (bytes : List ℕ) (price : ℕ) → Stores T b best bytes
+      → beats price best ≡ undercuts price b
+  stored-beats unfound NoFind bytes price h = refl
+  stored-beats unfound (LeastPrice q) bytes price h = absurd h
+  stored-beats (find m p) NoFind bytes price h = absurd h
+  stored-beats (find m p) (LeastPrice q) bytes price h = ap (ltb price) h.0
 
   -- of the same end of the search
   pub gives_same : (cap : ℕ) (bytes : List ℕ) (r : Finished) {w v : Walked} → w ≡ v → Gives T cap v bytes r
@@ -29,7 +30,8 @@ module _ (T : Table) where
   gives_same cap bytes r e g = subst (λ x. Gives T cap x bytes r) (sym e) g
 
   -- at the cap, nothing comes after
-  pub gives_cut : (cap : ℕ) (w : Walked) (more : Best → ℕ → Walked) (bytes : List ℕ) (c : Cut) → Gives T cap w bytes (Err c)
+  pub gives_cut : (cap : ℕ) (w : Walked) (more : Best → ℕ → Walked) (bytes : List ℕ) (c : Cut)
+      → Gives T cap w bytes (Err c)
       → Gives T cap (and_then w more) bytes (Err c)
   gives_cut cap (passed b d) more bytes c g = absurd g
   gives_cut cap (cut d) more bytes c g = g
@@ -48,10 +50,10 @@ module _ (T : Table) where
     where
       told : (b : Best) (best : Held) (choices : Choices) → Stores T b best bytes → choices.made ≡ c
           → finished k (Ok (record { best = best; choices = choices })) ≡ answer_of (outcome_of k (passed b c))
-      told unfound Unfound choices h e = λ i. None (e i) k
-      told unfound (Cheapest q) choices h e = absurd h
-      told (find m p) Unfound choices h e = absurd h
-      told (find m p) (Cheapest q) choices h e = λ i. Found (h.0 i) (e i) k
+      told unfound NoFind choices h e = λ i. None (e i) k
+      told unfound (LeastPrice q) choices h e = absurd h
+      told (find m p) NoFind choices h e = absurd h
+      told (find m p) (LeastPrice q) choices h e = λ i. Found (h.0 i) (e i) k
   gives-answer cap k (passed b c) bytes (Err d) g = absurd g
   gives-answer cap k (cut c) bytes (Ok p) g = absurd g
   gives-answer cap k (cut c) bytes (Err d) g = λ i. Spent (g.0 i) k
@@ -63,10 +65,10 @@ module _ (T : Table) where
       told : (b : Best) (best : Held) → Stores T b best bytes
           → written (length T.steps) (Ok (record { best = best; choices = p.choices })) bytes list ≡ list_after T
           (outcome_of k (passed b c)) list
-      told unfound Unfound h = refl
-      told unfound (Cheapest q) h = absurd h
-      told (find m p) Unfound h = absurd h
-      told (find m p) (Cheapest q) h = ap (λ (l : List ℕ). l ++ drop (length T.steps) list) h.1
+      told unfound NoFind h = refl
+      told unfound (LeastPrice q) h = absurd h
+      told (find m p) NoFind h = absurd h
+      told (find m p) (LeastPrice q) h = ap (λ (l : List ℕ). l ++ drop (length T.steps) list) h.1
   gives_list cap k (passed b c) bytes (Err d) list g = absurd g
   gives_list cap k (cut c) bytes (Ok p) list g = absurd g
   gives_list cap k (cut c) bytes (Err d) list g = refl

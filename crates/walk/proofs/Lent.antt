@@ -1,5 +1,5 @@
--- The words that each try of a step is lent. The kept one goes on from a copy of the words of the levels, or from themselves where there is no room for
--- one; the struck one from these as they were, or from words of 0.
+-- The words that each try of a step is lent. The kept one goes on from a copy of the words of the levels, or from
+-- themselves where there is no room for one; the struck one from these as they were, or from words of 0.
 use Prim.Native.Nat.{ℕ, ◌-◌, ◌≤◌, ◌<◌}
 use native.Mathlib.Omega.{arith}
 use mathlib.Core.Path.{◌≡◌, refl, sym, ap, subst, ◌∙◌}
@@ -7,7 +7,18 @@ use mathlib.Core.Bool.{Bool, true, false, cond}
 use mathlib.Core.List.{List, ◌++◌}
 use borrow.Author.Tests.{ltb-false, lt-ltb, le-ltb}
 use lib.Dec.{ltb}
-use lib.ListN.{length, get_or, take, drop, replicate, length-append, length-drop, length-replicate, take-append-drop, get_or-append}
+use lib.ListN.{
+  length,
+  get_or,
+  take,
+  drop,
+  replicate,
+  length-append,
+  length-drop,
+  length-replicate,
+  take-append-drop,
+  get_or-append,
+}
 use lib.Seq.{length-take-le, take_all, get_or-drop}
 use Rattle.table.specs.Table.{Table}
 use Rattle.circuit.specs.Logic.{Literal}
@@ -29,16 +40,21 @@ whole_with from words after = take from words ++ (after ++ drop (length words - 
 
 -- what the struck try is lent, when it came back as `after`
 abbrev pub left_words : ℕ → ℕ → List ℕ → List ℕ → List ℕ
-left_words levels from words after = cond (ltb from levels) (replicate (length (whole_with from words after)) 0) (whole_with from words after)
+left_words levels from words after =
+    cond (ltb from levels) (replicate (length (whole_with from words after)) 0) (whole_with from words after)
 
 -- by the way that it came there: filled with 0, or not
-pub left_zeroed : {levels from : ℕ} (mid after : List ℕ) {rest zeros : List ℕ} → rest ≡ zeros → zeros ≡ replicate (length (whole_with from mid after)) 0 → from < levels → rest ≡ left_words levels from mid after
+pub left_zeroed : {levels from : ℕ} (mid after : List ℕ) {rest zeros : List ℕ} → rest ≡ zeros
+    → zeros ≡ replicate (length (whole_with from mid after)) 0 → from < levels → rest ≡ left_words levels from mid after
 left_zeroed {levels} {from} mid after is zeroed h =
-    is ∙ zeroed ∙ sym (ap (λ (b : Bool). cond b (replicate (length (whole_with from mid after)) 0) (whole_with from mid after)) (lt-ltb from levels h))
+    is ∙ zeroed ∙ sym (ap (λ (b : Bool). cond b (replicate (length (whole_with from mid after)) 0)
+    (whole_with from mid after)) (lt-ltb from levels h))
 
-pub left_whole : {levels from : ℕ} (mid after : List ℕ) {rest : List ℕ} → rest ≡ whole_with from mid after → levels ≤ from → rest ≡ left_words levels from mid after
+pub left_whole : {levels from : ℕ} (mid after : List ℕ) {rest : List ℕ} → rest ≡ whole_with from mid after
+    → levels ≤ from → rest ≡ left_words levels from mid after
 left_whole {levels} {from} mid after is h =
-    is ∙ sym (ap (λ (b : Bool). cond b (replicate (length (whole_with from mid after)) 0) (whole_with from mid after)) (le-ltb from levels h))
+    is ∙ sym (ap (λ (b : Bool). cond b (replicate (length (whole_with from mid after)) 0) (whole_with from mid after))
+    (le-ltb from levels h))
 
 module _ {levels room : ℕ} {words mid : List ℕ} {from : ℕ} (keeps : Keeps levels room words mid from) where
   pub part_start : from ≤ length mid
@@ -91,10 +107,12 @@ module _ {levels room : ℕ} {words mid : List ℕ} {from : ℕ} (keeps : Keeps 
     left_length rest e = ap length e ∙ left_size (ltb from levels)
 
     module _ (T : Table) (rows : List ℕ) (all : levels ≡ level_total T) where
-      left_agrees : ltb from levels ≡ false → (k : ℕ) → k < level_total T → get_or (whole_with from mid after) k 0 ≡ get_or words k 0
+      left_agrees : ltb from levels ≡ false → (k : ℕ) → k < level_total T
+          → get_or (whole_with from mid after) k 0 ≡ get_or words k 0
       left_agrees e k h = front_stays k (omega (arith, h, all, ltb-false from levels e))
 
-      left_lies : (fresh : Bool) → ltb from levels ≡ fresh → (Q : List (Literal Var)) → Between T Q (memory rows words) → Between T Q (memory rows (left fresh))
+      left_lies : (fresh : Bool) → ltb from levels ≡ fresh → (Q : List (Literal Var)) → Between T Q (memory rows words)
+          → Between T Q (memory rows (left fresh))
       unfolding left
       left_lies true e Q b = zeroed_between T rows words (length (whole_with from mid after)) Q b
       left_lies false e Q b = words_between T rows words (whole_with from mid after) (left_agrees e) Q b
@@ -107,15 +125,19 @@ module _ {levels room : ℕ} {words mid : List ℕ} {from : ℕ} (keeps : Keeps 
 
         pub left_rests : Resting T (memory rows words) → ltb from levels ≡ false → Resting T (memory rows rest)
         left_rests r e =
-            let same : rest ≡ whole_with from mid after = is ∙ ap (λ (x : Bool). cond x (replicate (length (whole_with from mid after)) 0) (whole_with from mid after)) e in
-            subst (λ w. Resting T (memory rows w)) (sym same) (words_rest T rows words (whole_with from mid after) (left_agrees e) 0 r)
+            let same : rest ≡ whole_with from mid after = is
+            ∙ ap (λ (x : Bool). cond x (replicate (length (whole_with from mid after)) 0)
+            (whole_with from mid after)) e in
+            subst (λ w. Resting T (memory rows w)) (sym same)
+            (words_rest T rows words (whole_with from mid after) (left_agrees e) 0 r)
 
   -- what the kept try is lent
   module _ (T : Table) (rows : List ℕ) (all : levels ≡ level_total T) where
     lent_agrees : (k : ℕ) → k < level_total T → get_or (part_from from mid) k 0 ≡ get_or words k 0
     lent_agrees k h = part_agrees k (omega (arith, h, all))
 
-    pub lent_between : (Q : List (Literal Var)) → Between T Q (memory rows words) → Between T Q (memory rows (take (length mid - from) (drop from mid)))
+    pub lent_between : (Q : List (Literal Var)) → Between T Q (memory rows words)
+        → Between T Q (memory rows (take (length mid - from) (drop from mid)))
     lent_between = words_between T rows words (part_from from mid) lent_agrees
 
     pub lent_rests : Resting T (memory rows words) → Resting T (memory rows (take (length mid - from) (drop from mid)))

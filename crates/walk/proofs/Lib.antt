@@ -9,7 +9,7 @@ pub mod Parted
 pub mod Lent
 pub mod StepMarks
 pub mod Fewer
-pub mod Reached
+pub mod Assessed
 pub mod ChoiceCount
 pub mod Giving
 pub mod TryLaws

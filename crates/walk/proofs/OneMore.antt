@@ -15,7 +15,8 @@ module _ (w to : ℕ) where
   more = set_of 32 (λ t. member w t || eqb t to)
 
   pub more_only : (t : ℕ) → member more t ≡ true → (member w t ≡ true) ⊎ (t ≡ to)
-  more_only t e = go (member w t) refl ((and-eq-true_iff (ltb t 32) (member w t || eqb t to)).0 (sym (member-set_of 32 _ t) ∙ e)).1
+  more_only t e =
+      go (member w t) refl ((and-eq-true_iff (ltb t 32) (member w t || eqb t to)).0 (sym (member-set_of 32 _ t) ∙ e)).1
     where
       go : (b : Bool) → member w t ≡ b → member w t || eqb t to ≡ true → (member w t ≡ true) ⊎ (t ≡ to)
       go true q h = inl q

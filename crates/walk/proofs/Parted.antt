@@ -1,4 +1,5 @@
--- The words of the levels with others behind them: what is known, what lies between the literals and their closure, and what rests, is the same with them.
+-- The words of the levels with others behind them: what is known, what lies between the literals and their closure,
+-- and what rests, is the same with them.
 use Prim.Native.Nat.{ℕ, ◌^◌, ◌<◌}
 use native.Mathlib.Omega.{arith}
 use native.Mathlib.Decide.{dec_lt}
@@ -22,7 +23,8 @@ module _ (T : Table) (rows levels rest : List ℕ) (all : length levels ≡ leve
 
   -- ---- with them
 
-  pub whole_closes : (P : List (Literal Var)) (c : Option ℕ) → Closes T P c (memory rows levels) → Closes T P c (memory rows (levels ++ rest))
+  pub whole_closes : (P : List (Literal Var)) (c : Option ℕ) → Closes T P c (memory rows levels)
+      → Closes T P c (memory rows (levels ++ rest))
   whole_closes P c closes = record {
     fails_exact = closes.fails_exact;
     settled = closes.settled;
@@ -30,7 +32,8 @@ module _ (T : Table) (rows levels rest : List ℕ) (all : length levels ≡ leve
     exact = closes.exact;
   }
 
-  pub whole_rest : (set : ℕ) → RestBut T set (knowledge T (memory rows levels)) → RestBut T set (knowledge T (memory rows (levels ++ rest)))
+  pub whole_rest : (set : ℕ) → RestBut T set (knowledge T (memory rows levels))
+      → RestBut T set (knowledge T (memory rows (levels ++ rest)))
   whole_rest = words_rest T rows levels (levels ++ rest) agrees
 
   -- ---- without them
@@ -45,7 +48,8 @@ module _ (T : Table) (rows levels rest : List ℕ) (all : length levels ≡ leve
     pub part_founded : Founded T (memory rows words) → Founded T (memory rows levels)
     part_founded (P, inside) = (P, words_inside T rows words levels same (ForcedBy T P) inside)
 
-    pub part_rest : (set : ℕ) → RestBut T set (knowledge T (memory rows words)) → RestBut T set (knowledge T (memory rows levels))
+    pub part_rest : (set : ℕ) → RestBut T set (knowledge T (memory rows words))
+        → RestBut T set (knowledge T (memory rows levels))
     part_rest = words_rest T rows words levels same
 
     pub part_sized : Sized T (memory rows words) → Sized T (memory rows levels)
@@ -57,5 +61,6 @@ module _ (T : Table) (rows levels rest : List ℕ) (all : length levels ≡ leve
     }
       where
         small : (k : ℕ) → Dec (k < length levels) → get_or levels k 0 < 2 ^ 32
-        small k (yes l) = rw (sym (get_or-append levels rest 0 k l), sym (ap (λ (w : List ℕ). get_or w k 0) is)) (sized.small_words k)
+        small k (yes l) =
+            rw (sym (get_or-append levels rest 0 k l), sym (ap (λ (w : List ℕ). get_or w k 0) is)) (sized.small_words k)
         small k (no d) = rw (get_or-eq_default levels 0 {n = k} (omega (arith, d))) (omega arith)

@@ -1,4 +1,5 @@
--- Step rows that hold exactly what marks know: a step is unsettled in both or in neither, and they give the same list and cost the same.
+-- Step rows that hold exactly what marks know: a step is unsettled in both or in neither, and they give the same list
+-- and cost the same.
 use Prim.Native.Nat.{ℕ, ◌<◌}
 use mathlib.Core.Path.{◌≡◌, refl, sym, ap, ◌∙◌}
 use mathlib.Core.Bool.{Bool, true, false, cond, not, ◌||◌, beq, false≢true}
@@ -11,7 +12,7 @@ use Rattle.table.proofs.Bools.{same_test}
 use Rattle.ctl.proofs.Price.{price_same}
 use Rattle.ctl.proofs.Tabulate.{length_tabulate, get_d_tabulate}
 use Rattle.rows.specs.Steps.{step_bit}
-use Rattle.closure.specs.Closure.{Mark, unknown, known, Marks, mark_at, is_known}
+use Rattle.closure.specs.Computed.{Mark, unknown, known, Marks, mark_at, is_known}
 use Rattle.closure.specs.Closes.{step_known}
 use Rattle.search.specs.TableSearch.{bit_of, is_struck, mark_price, list_of}
 use Rattle.search.specs.StepRows.{is_unsettled, rows_price, kept_bytes}
@@ -49,7 +50,8 @@ byte_of (known true) = refl
 byte_of (known false) = refl
 
 module _ (T : Table) (rows : List ℕ) (m : Marks)
-    (exact : (i : ℕ) (sign : Bool) → i < length T.steps → (step_known T rows sign i ≡ true) ↔ (mark_at m i ≡ known sign)) where
+    (exact : (i : ℕ) (sign : Bool) → i < length T.steps
+    → (step_known T rows sign i ≡ true) ↔ (mark_at m i ≡ known sign)) where
   step_mark : (i : ℕ) → i < length T.steps → (sign : Bool) → step_known T rows sign i ≡ is_sign sign (mark_at m i)
   step_mark i h sign = same_test _ _
       (λ e. ap (is_sign sign) ((exact i sign h).0 e) ∙ sign_same sign)
@@ -64,7 +66,8 @@ module _ (T : Table) (rows : List ℕ) (m : Marks)
   pub list_mark : kept_bytes T rows ≡ list_of T m
   list_mark = ext_get_or 0 (kept_bytes T rows) (list_of T m) (length_tabulate e bit ∙ sym (length-bytes_of e m))
       (λ i h. let l : i < e = rw length_tabulate at h in
-      get_d_tabulate e bit i 0 l ∙ ap (λ (b : Bool). cond b 1 0) (step_mark i l true) ∙ byte_of (mark_at m i) ∙ sym (get_d_bytes_of e m i l))
+      get_d_tabulate e bit i 0 l ∙ ap (λ (b : Bool). cond b 1 0) (step_mark i l true) ∙ byte_of (mark_at m i)
+      ∙ sym (get_d_bytes_of e m i l))
     where
       e : ℕ
       e = length T.steps

@@ -9,10 +9,10 @@ use lib.Dec.{eqb}
 use lib.ListN.{length, drop_of_length-le}
 use lib.Seq.{drop-cons}
 use Rattle.table.specs.Table.{Table}
-use Rattle.ctl.specs.Levels.{below}
+use Rattle.ctl.specs.Range.{below}
 use Rattle.ctl.proofs.Tabulate.{length_tabulate, get_d_tabulate}
 use Rattle.circuit.specs.Logic.{Literal}
-use Rattle.closure.specs.Closure.{Marks, mark_at, is_known, Progress, clash, marked}
+use Rattle.closure.specs.Computed.{Marks, mark_at, is_known, Progress, clash, marked}
 use Rattle.search.specs.Search.{Best, find, undercuts, Walked, passed, cut, capped, choose, walk}
 use Rattle.search.specs.TableSearch.{mark_price}
 use Rattle.search.specs.Fine.{closure_of}
@@ -32,12 +32,14 @@ module _ (T : Table) where
 
   module _ (cap : ℕ) (P : List (Literal ℕ)) (m : Marks) (best : Best) (made : ℕ) where
     -- settled steps are passed
-    pass : (k : ℕ) → k ≤ length T.steps → ((i : ℕ) → i < k → is_known (mark_at m i) ≡ true) → walk_from T cap 0 P m best made ≡ walk_from T cap k P m best made
+    pass : (k : ℕ) → k ≤ length T.steps → ((i : ℕ) → i < k → is_known (mark_at m i) ≡ true)
+        → walk_from T cap 0 P m best made ≡ walk_from T cap k P m best made
     pass zero h settled = refl
     pass (suc k) h settled =
         pass k (omega arith) (λ i l. settled i (omega arith))
         ∙ ap (λ (js : List ℕ). walk (capped cap) (closure_of T) (mark_price T) js P m best made) (steps_cons k h)
-        ∙ walk_known (capped cap) (closure_of T) (mark_price T) k (steps_from T (suc k)) P m best made (settled k (omega arith))
+        ∙ walk_known (capped cap) (closure_of T) (mark_price T) k (steps_from T (suc k)) P m best made
+        (settled k (omega arith))
 
     pub walk_passed : (i k : ℕ) → i ≤ k → k ≤ length T.steps → ((x : ℕ) → x < k → is_known (mark_at m x) ≡ true)
         → walk_from T cap i P m best made ≡ walk_from T cap k P m best made
@@ -70,23 +72,29 @@ module _ (T : Table) where
     unfolding by_closure
     search_clash e = ap by_closure e
 
-    pub search_dear : {m : Marks} {new : Bool} → closure_of T P ≡ marked m new → undercuts (mark_price T m) best ≡ false → search_from T cap j P best made ≡ passed best made
+    pub search_dear : {m : Marks} {new : Bool} → closure_of T P ≡ marked m new
+        → undercuts (mark_price T m) best ≡ false → search_from T cap j P best made ≡ passed best made
     unfolding by_closure by_price
     search_dear {m} e dear = ap by_closure e ∙ ap (by_price m) dear
 
-    pub search_marked : {m : Marks} {new : Bool} → closure_of T P ≡ marked m new → undercuts (mark_price T m) best ≡ true → search_from T cap j P best made ≡ walk_from T cap j P m best made
+    pub search_marked : {m : Marks} {new : Bool} → closure_of T P ≡ marked m new
+        → undercuts (mark_price T m) best ≡ true → search_from T cap j P best made ≡ walk_from T cap j P m best made
     unfolding by_closure by_price
     search_marked {m} e cheap = ap by_closure e ∙ ap (by_price m) cheap
 
   -- a choice at the cap, and below it
   module _ (cap j : ℕ) (l : Literal ℕ) (P : List (Literal ℕ)) (best : Best) (made : ℕ) where
     by_count : Bool → Walked
-    by_count stop = chosen stop (closure_of T (l ∷ P)) (λ m. undercuts (mark_price T m) best) (l ∷ P) best made (walk_from T cap j)
+    by_count stop =
+        chosen stop (closure_of T (l ∷ P)) (λ m. undercuts (mark_price T m) best) (l ∷ P) best made (walk_from T cap j)
 
-    pub choose_capped : eqb made cap ≡ true → choose (capped cap) (closure_of T) (mark_price T) l P best made (walk_from T cap j) ≡ cut made
+    pub choose_capped : eqb made cap ≡ true
+        → choose (capped cap) (closure_of T) (mark_price T) l P best made (walk_from T cap j) ≡ cut made
     unfolding by_count
     choose_capped e = ap by_count e
 
-    pub choose_next : eqb made cap ≡ false → choose (capped cap) (closure_of T) (mark_price T) l P best made (walk_from T cap j) ≡ search_from T cap j (l ∷ P) best (made + 1)
+    pub choose_next : eqb made cap ≡ false
+        → choose (capped cap) (closure_of T) (mark_price T) l P best made (walk_from T cap j)
+        ≡ search_from T cap j (l ∷ P) best (made + 1)
     unfolding by_count
     choose_next e = ap by_count e ∙ ap (search_from T cap j (l ∷ P) best) (sym (add-one made))

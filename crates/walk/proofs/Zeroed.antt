@@ -1,4 +1,5 @@
--- Words of 0: they know no level, so the rows with them still lie between the literals and their closure; and with rows of 0 nothing is known.
+-- Words of 0: they know no level, so the rows with them still lie between the literals and their closure; and with
+-- rows of 0 nothing is known.
 use Prim.Native.Nat.{ℕ, ◌+◌, ◌*◌, ◌-◌, ◌<◌}
 use mathlib.Core.Path.{◌≡◌, sym, ap, ◌∙◌}
 use mathlib.Core.Bool.{Bool, true, false, cond, false≢true}
@@ -44,13 +45,17 @@ module _ (T : Table) (rows words : List ℕ) (n : ℕ) where
       at : ℕ
       at = level_base T i + 2 * (m - 1)
 
-      go : (x y : Bool) → known (cond x (row_at rows (node_place b)) (cond y (row_at rows (node_place i)) (row_at (replicate n 0) at))) sign s ≡ true
-          → known (cond x (row_at rows (node_place b)) (cond y (row_at rows (node_place i)) (row_at words at))) sign s ≡ true
+      go : (x y : Bool) → known
+          (cond x (row_at rows (node_place b)) (cond y (row_at rows (node_place i)) (row_at (replicate n 0) at))) sign
+          s ≡ true
+          → known (cond x (row_at rows (node_place b)) (cond y (row_at rows (node_place i)) (row_at words at))) sign s
+          ≡ true
       go true y e = e
       go false true e = e
       go false false e = never (zero_row n at sign s) e
 
-  pub zeroed_between : (Q : List (Literal Var)) → Between T Q (memory rows words) → Between T Q (memory rows (replicate n 0))
+  pub zeroed_between : (Q : List (Literal Var)) → Between T Q (memory rows words)
+      → Between T Q (memory rows (replicate n 0))
   zeroed_between Q b = record {
     of_steps = b.of_steps;
     above = b.above;
@@ -58,7 +63,8 @@ module _ (T : Table) (rows words : List ℕ) (n : ℕ) where
       steps = b.below.steps;
       kept = b.below.kept;
       nodes = b.below.nodes;
-      levels = λ i fam q x y m h o l sign s e. b.below.levels i fam q x y m h o l sign s (level_less i (second_child (operator_of (node_at T i))) m sign s e);
+      levels = λ i fam q x y m h o l sign s e. b.below.levels i fam q x y m h o l sign s
+          (level_less i (second_child (operator_of (node_at T i))) m sign s e);
     };
   }
 
@@ -77,7 +83,9 @@ none_between T n = record {
 }
   where
     none_level : (i m : ℕ) (sign : Bool) (s : ℕ) (x y : Bool)
-        → known (cond x (row_at (replicate 130 0) (node_place (second_child (operator_of (node_at T i))))) (cond y (row_at (replicate 130 0) (node_place i)) (row_at (replicate n 0) (level_base T i + 2 * (m - 1))))) sign s ≡ false
+        → known (cond x (row_at (replicate 130 0) (node_place (second_child (operator_of (node_at T i)))))
+        (cond y (row_at (replicate 130 0) (node_place i))
+        (row_at (replicate n 0) (level_base T i + 2 * (m - 1))))) sign s ≡ false
     none_level i m sign s true y = zero_row 130 (node_place (second_child (operator_of (node_at T i)))) sign s
     none_level i m sign s false true = zero_row 130 (node_place i) sign s
     none_level i m sign s false false = zero_row n _ sign s

@@ -8,7 +8,8 @@ use Rattle.closure.specs.Knowledge.{level_total}
 abbrev pub room_total : Table → ℕ
 room_total T = level_total T + word_total T
 
--- From some place on the words are those of the levels, with room for a closure; what stands before that place has stayed.
+-- From some place on the words are those of the levels, with room for a closure; what stands before that place has
+-- stayed.
 pub record Keeps (levels room : ℕ) (before after : List ℕ) (from : ℕ) : Type 0 where
   pub size : length after ≡ length before
   pub room_left : from + room ≤ length before

@@ -1,2 +1,3 @@
+-- What contracts between functions and proofs speak of; no promise does.
 pub mod KeptWords
 pub mod Stands

@@ -1,8 +1,8 @@
 // The two tries in code: what a closure comes to, and the search of a table.
 #![tactic(auto)]
 
+mod assess;
 mod parts;
-mod reach;
 mod start;
 mod tries;
 mod words;

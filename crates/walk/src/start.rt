@@ -11,15 +11,17 @@ ghost use Rattle.search.specs.Finds.{Gives};
 ghost use Rattle.walk.specs.KeptWords.{room_total};
 ghost use Rattle.walk.specs.Stands.{Resting, search_from};
 
+use crate::assess::{Assessed, assess};
 use crate::parts::close_parts;
-use crate::reach::{Reached, assess};
 use crate::tries::kept_try;
 use events::Net;
+use rows::ROW_WORDS;
 use search::{Answer, Choices, Cut, Passed, finish};
+use table::MOST_STEPS;
 
 // The closure of nothing, with no step and no level known at first.
-fn close_nothing(net: &Net<'_>, rows: &mut [u32; 130], words: &mut [u32]) -> Option<u32>
-    requires rows_value { rows.old ≡ replicate 130 0 }
+fn close_nothing(net: &Net<'_>, rows: &mut [u32; ROW_WORDS], words: &mut [u32]) -> Option<u32>
+    requires rows_value { rows.old ≡ replicate ROW_WORDS 0 }
     requires words_room { room_total (table_in net.now) ≤ length words.old }
     ensures sized { Sized (table_in net.now) (memory rows.new words.new) }
     ensures closes { Closes (table_in net.now) [] result (memory rows.new words.new) }
@@ -29,14 +31,15 @@ fn close_nothing(net: &Net<'_>, rows: &mut [u32; 130], words: &mut [u32]) -> Opt
     close_parts(net, rows, words, None)
 }
 
-// All of the search: what is tried from the closure of nothing. The list of the cheapest find is left in `find`. That the words have room is asked,
-// here and of the tries: they are lent in parts, and a struct of words and fact would be made anew for each.
+// All of the search: what is tried from the closure of nothing. The list of the cheapest find is left in `find`. That
+// the words have room is asked, here and of the tries: they are lent in parts, and a struct of words and fact would
+// be made anew for each.
 fn walk_table(
     net: &Net<'_>,
-    rows: &[u32; 130],
+    rows: &[u32; ROW_WORDS],
     closed: Option<u32>,
     cap: u64,
-    find: &mut [u8; 128],
+    find: &mut [u8; MOST_STEPS],
     words: &mut [u32],
 ) -> Result<Passed, Cut>
     requires words_room { room_total (table_in net.now) ≤ length words.old }
@@ -46,12 +49,13 @@ fn walk_table(
 {
     let choices = Choices { made: 0, cap };
     match assess(net, rows, closed, None, find) {
-        Reached::Ended(best) => Ok(Passed { best, choices }),
-        Reached::Unsettled(j) => kept_try(net, rows, j, choices, None, find, words),
+        Assessed::Ended(best) => Ok(Passed { best, choices }),
+        Assessed::Unsettled(j) => kept_try(net, rows, j, choices, None, find, words),
     }
 }
 
-// The answer under a cap. A found list is written to the front of `list`. All of the words may be used, and there has to be room for a closure.
+/// The answer under a cap. A found list is written to the front of `list`. All of the words may be used, and there
+/// has to be room for one closure: `Net::room` words.
 pub fn search_table(net: &Net<'_>, cap: u64, list: &mut [u8], words: &mut [u32]) -> Answer
     requires words_room { room_total (table_in net.now) ≤ length words.old }
     requires list_room { length (table_in net.now).steps ≤ length list.old }
@@ -59,8 +63,8 @@ pub fn search_table(net: &Net<'_>, cap: u64, list: &mut [u8], words: &mut [u32])
     ensures list_after { list.new ≡ list_after (table_in net.now) (search_under (table_in net.now) cap) list.old }
     ensures words_len_unchanged { length words.new ≡ length words.old }
 {
-    let mut find = [0u8; 128];
-    let mut rows = [0u32; 130];
+    let mut find = [0u8; MOST_STEPS];
+    let mut rows = [0u32; ROW_WORDS];
     let closed = close_nothing(net, &mut rows, words);
     let walked = walk_table(net, &rows, closed, cap, &mut find, words);
     finish(&net.table, walked, closed.unwrap_or(0), &find, list)

@@ -5,22 +5,24 @@ ghost use Rattle.events.specs.NetTable.{table_in};
 ghost use Rattle.walk.specs.KeptWords.{room_total};
 ghost use Rattle.walk.specs.Stands.{GoesOn, Resting, Somewhere, GivesFrom, walk_from, try_from};
 
-use crate::reach::{Reached, choose};
+use crate::assess::{Assessed, choose};
 use crate::words::keep;
 use events::Net;
+use rows::ROW_WORDS;
 use search::{Choices, Cut, Passed};
+use table::MOST_STEPS;
 
-// Chooses step j kept and searches on; then, unless that reached the cap, makes the struck try of step j. The struck try
-// goes on from the level words as they are now: the kept one is lent a copy of them behind these. Where there is no room
-// for that, the struck try begins afresh.
+/// Chooses step j kept and searches on; then, unless that reached the cap, makes the struck try of step j. The struck
+/// try goes on from the level words as they are now: the kept one is lent a copy of them behind these. Where there is
+/// no room for that, the struck try begins afresh.
 #[cycle(tries)]
 pub fn kept_try(
     net: &Net<'_>,
-    rows: &[u32; 130],
+    rows: &[u32; ROW_WORDS],
     j: usize,
     choices: Choices,
     best: Option<u32>,
-    find: &mut [u8; 128],
+    find: &mut [u8; MOST_STEPS],
     words: &mut [u32],
 ) -> Result<Passed, Cut>
     requires words_room { room_total (table_in net.now) ≤ length words.old }
@@ -37,11 +39,11 @@ pub fn kept_try(
     let mut next = *rows;
     let lent = &mut words[from..];
     let kept = match choose(net, &mut next, j, true, best, find, lent, false) {
-        Reached::Ended(best) => Passed {
+        Assessed::Ended(best) => Passed {
             best,
             choices: more,
         },
-        Reached::Unsettled(k) => kept_try(net, &next, k, more, best, find, lent)?,
+        Assessed::Unsettled(k) => kept_try(net, &next, k, more, best, find, lent)?,
     };
     let fresh = from < net.bases.total;
     if fresh {
@@ -54,11 +56,11 @@ pub fn kept_try(
 #[cycle(tries)]
 fn struck_try(
     net: &Net<'_>,
-    rows: &[u32; 130],
+    rows: &[u32; ROW_WORDS],
     j: usize,
     choices: Choices,
     best: Option<u32>,
-    find: &mut [u8; 128],
+    find: &mut [u8; MOST_STEPS],
     words: &mut [u32],
     fresh: bool,
 ) -> Result<Passed, Cut>
@@ -74,10 +76,10 @@ fn struck_try(
     };
     let mut next = *rows;
     match choose(net, &mut next, j, false, best, find, words, fresh) {
-        Reached::Ended(best) => Ok(Passed {
+        Assessed::Ended(best) => Ok(Passed {
             best,
             choices: more,
         }),
-        Reached::Unsettled(k) => kept_try(net, &next, k, more, best, find, words),
+        Assessed::Unsettled(k) => kept_try(net, &next, k, more, best, find, words),
     }
 }

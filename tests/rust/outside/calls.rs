@@ -29,7 +29,9 @@ fn number<T>(wanted: &Result<T, u32>) -> u32 {
 }
 
 impl Calls {
-    fn count(&mut self, kind: usize, number: u32, compared: Result<(), String>, inputs: impl Fn() -> String) -> Result<(), String> {
+    fn count(
+        &mut self, kind: usize, number: u32, compared: Result<(), String>, inputs: impl Fn() -> String,
+    ) -> Result<(), String> {
         compared.map_err(|difference| format!("{}: {difference}\n{}", NAMES[kind], inputs()))?;
         self.agreed[kind][number as usize] += 1;
         Ok(())
@@ -49,7 +51,10 @@ impl Calls {
         let wanted = wanted::label(table, list, room);
         out.want(wanted.as_deref().unwrap_or(&[]));
         let got = fitter::label(t.part(), l.part(), out.part());
-        let compared = same("number", got, number(&wanted)).and_then(|()| out.check()).and_then(|()| t.check()).and_then(|()| l.check());
+        let compared = same("number", got, number(&wanted))
+            .and_then(|()| out.check())
+            .and_then(|()| t.check())
+            .and_then(|()| l.check());
         self.count(2, number(&wanted), compared, || format!("table {}\nlist {}\nroom {room}", hex(table), hex(list)))
     }
 
@@ -87,7 +92,8 @@ impl Calls {
 
     // `v` is V where the table is accepted.
     pub fn repair(
-        &mut self, random: &mut Random, table: &[u8], cap: u64, rooms: Rooms, v: usize, search: impl FnOnce() -> clauses::Answer,
+        &mut self, random: &mut Random, table: &[u8], cap: u64, rooms: Rooms, v: usize,
+        search: impl FnOnce() -> clauses::Answer,
     ) -> Result<(), String> {
         let mut t = Lent::given(random, "table", table);
         let mut list = Lent::<u8>::junk(random, "list", rooms.list);
@@ -105,7 +111,16 @@ impl Calls {
             Ok(answer) => (answer.number, (answer.choices, answer.price, answer.settled)),
             Err(refusal) => (*refusal, before),
         };
-        let got = fitter::repair(t.part(), cap, list.part(), bytes.part(), words.part(), &mut choices, &mut price, &mut settled);
+        let got = fitter::repair(
+            t.part(),
+            cap,
+            list.part(),
+            bytes.part(),
+            words.part(),
+            &mut choices,
+            &mut price,
+            &mut settled,
+        );
         let compared = same("number", got, number)
             .and_then(|()| same("choices, price and settled steps", (choices, price, settled), stored))
             .and_then(|()| list.check())

@@ -1,5 +1,6 @@
-// The closure of nothing, word for word: the clauses of 01 and A1 written out, and the smallest set of literals that they ask for, by going over
-// all of them until none asks for more. It has no counters, and nothing of the plain search.
+// The closure of nothing, word for word: the clauses of the net written out (Specification, "Net"), and the smallest
+// set of literals that they ask for (Specification, "Closure"), by going over all of them until none asks for more. It
+// has no counters, and nothing of the plain search.
 use crate::table::{Node, Table};
 
 // A variable, and whether it is said as it is.
@@ -74,15 +75,19 @@ impl Clauses {
         match node.kind {
             0 => states.map(|_| self.or(&[])).collect(),
             1 => states.map(|_| self.and(&[])).collect(),
-            2 => states.map(|s| if table.labels[s] >> node.a & 1 == 1 { self.and(&[]) } else { self.or(&[]) }).collect(),
+            2 => {
+                states.map(|s| if table.labels[s] >> node.a & 1 == 1 { self.and(&[]) } else { self.or(&[]) }).collect()
+            }
             3 => states.map(|s| self.and(&[not(a(s))])).collect(),
             4 => states.map(|s| self.and(&[a(s), b(s)])).collect(),
             5 => states.map(|s| self.or(&[a(s), b(s)])).collect(),
             6 | 7 => states.map(|s| self.next(table, node.kind == 6, &x[node.a], s)).collect(),
             kind => {
-                let mut level: Vec<Literal> = states.clone().map(|s| self.and(&[if kind < 12 { b(s) } else { a(s) }])).collect();
+                let mut level: Vec<Literal> =
+                    states.clone().map(|s| self.and(&[if kind < 12 { b(s) } else { a(s) }])).collect();
                 for _ in states.clone() {
-                    let next: Vec<Literal> = states.clone().map(|s| self.next(table, kind % 2 == 0, &level, s)).collect();
+                    let next: Vec<Literal> =
+                        states.clone().map(|s| self.next(table, kind % 2 == 0, &level, s)).collect();
                     level = states.clone().map(|s| self.level(kind, a(s), b(s), next[s])).collect();
                 }
                 level
@@ -95,7 +100,10 @@ fn clauses(table: &Table) -> Clauses {
     let states = 0..table.initial.len();
     let steps = || table.steps.iter().enumerate();
     let mut all = Clauses { variables: table.steps.len(), clauses: vec![] };
-    let kept: Vec<Literal> = states.clone().map(|s| all.or(&steps().filter(|(_, x)| x.0 == s).map(|(j, _)| step(j)).collect::<Vec<_>>())).collect();
+    let kept: Vec<Literal> = states
+        .clone()
+        .map(|s| all.or(&steps().filter(|(_, x)| x.0 == s).map(|(j, _)| step(j)).collect::<Vec<_>>()))
+        .collect();
     let mut x: Vec<Vec<Literal>> = vec![];
     for node in &table.nodes {
         let row = all.row(table, node, &x);
@@ -127,7 +135,8 @@ impl Set {
         (0..self.said.len()).any(|variable| self.said[variable] && self.turned[variable])
     }
 
-    // Puts in what the clause asks for: a literal, where all those are contradicted that differ from it. Whether it is new.
+    // Puts in what the clause asks for: a literal, where all those are contradicted that differ from it. Whether it is
+    // new.
     fn grow(&mut self, clause: &[Literal]) -> bool {
         let mut grown = false;
         for &l in clause {
@@ -145,7 +154,8 @@ impl Set {
 pub fn settled(table: &Table) -> u32 {
     let all = clauses(table);
     let mut set = Set { said: vec![false; all.variables], turned: vec![false; all.variables] };
-    // from the first clause to the last and back: what is known of a gate goes both ways, and the order makes no difference to the set
+    // from the first clause to the last and back: what is known of a gate goes both ways, and the order makes no
+    // difference to the set
     loop {
         let mut grown = all.clauses.iter().filter(|clause| set.grow(clause)).count() > 0;
         grown |= all.clauses.iter().rev().filter(|clause| set.grow(clause)).count() > 0;

@@ -60,7 +60,13 @@ fn node(random: &mut Random, draft: &mut Draft) {
         2 => node[random.between(1, 2)] = (i as u8).wrapping_add(random.pick(&[0, 0, 1, 32, 255])),
         3 => *node = [2, p.wrapping_add(random.pick(&[0, 0, 1, 255])), 0],
         // one child, and a second that would be lower too
-        4 => *node = [random.pick(&[3, 6, 7, 12, 13, 14, 15]), random.below(i.max(1)) as u8, random.between(1, i.max(2) - 1) as u8],
+        4 => {
+            *node = [
+                random.pick(&[3, 6, 7, 12, 13, 14, 15]),
+                random.below(i.max(1)) as u8,
+                random.between(1, i.max(2) - 1) as u8,
+            ]
+        }
         _ => node[random.between(1, 2)] ^= 1 << random.below(8),
     }
 }

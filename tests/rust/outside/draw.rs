@@ -12,7 +12,10 @@ fn size(random: &mut Random) -> [usize; 4] {
         13..=23 => [random.between(2, 6), random.between(3, 10), random.between(3, 14), random.between(0, 3)],
         24..=29 => [random.between(4, 16), random.between(8, 48), random.between(4, 20), random.between(0, 5)],
         30 => [random.between(16, 32), random.between(32, 128), random.between(8, 32), random.between(0, 16)],
-        _ => [random.pick(&[1, 2, 31, 32]), random.pick(&[0, 1, 127, 128]), random.pick(&[1, 2, 31, 32]), random.pick(&[0, 1, 15, 16])],
+        _ => [
+            random.pick(&[1, 2, 31, 32]), random.pick(&[0, 1, 127, 128]), random.pick(&[1, 2, 31, 32]),
+            random.pick(&[0, 1, 15, 16]),
+        ],
     }
 }
 
@@ -29,8 +32,8 @@ fn table_of(random: &mut Random, [n, e, f, p]: [usize; 4]) -> Draft {
     Draft { counts: [n as u8, steps.len() as u8, f as u8, p as u8], states, steps, nodes }
 }
 
-// A small table, if one comes soon, whose search has to go back for more than the struck tries behind its only find; or one with a repair that
-// undercuts the first in rank.
+// A small table, if one comes soon, whose search has to go back for more than the struck tries behind its only find; or
+// one with a repair that undercuts the first in rank.
 pub fn hard(random: &mut Random) -> Draft {
     let by_price = random.once_in(2);
     for _ in 0..60 {
@@ -93,11 +96,17 @@ fn steps(random: &mut Random, n: usize, e: usize) -> Vec<(u8, u8)> {
     all
 }
 
-// A price for each step. Often there are few different ones, so that lists cost the same, or the sums are as large as can be.
+// A price for each step. Often there are few different ones, so that lists cost the same, or the sums are as large as
+// can be.
 fn priced(random: &mut Random, steps: &[(u8, u8)]) -> Vec<(u8, u8, u8)> {
-    let (low, high) = random.pick(&[(0, 0), (0, 1), (0, 3), (0, 3), (1, 1), (1, 3), (1, 9), (0, 255), (0, 255), (250, 255), (255, 255)]);
+    let (low, high) = random.pick(&[
+        (0, 0), (0, 1), (0, 3), (0, 3), (1, 1), (1, 3), (1, 9), (0, 255), (0, 255), (250, 255), (255, 255),
+    ]);
     let free = random.once_in(6);
-    steps.iter().map(|&(from, to)| (from, to, if free && random.once_in(2) { 0 } else { random.between(low, high) as u8 })).collect()
+    steps
+        .iter()
+        .map(|&(from, to)| (from, to, if free && random.once_in(2) { 0 } else { random.between(low, high) as u8 }))
+        .collect()
 }
 
 // A list of any steps, many or few.

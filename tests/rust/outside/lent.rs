@@ -61,7 +61,10 @@ impl<T: Entry> Lent<T> {
         for i in 0..self.all.len() {
             if self.all[i] != self.wanted[i] {
                 let place = i as i64 - self.from as i64;
-                return Err(format!("{} (room {}), entry {place}: {:x}, wanted {:x}", self.name, self.room, self.all[i], self.wanted[i]));
+                return Err(format!(
+                    "{} (room {}), entry {place}: {:x}, wanted {:x}",
+                    self.name, self.room, self.all[i], self.wanted[i]
+                ));
             }
         }
         Ok(())

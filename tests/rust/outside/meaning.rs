@@ -28,7 +28,8 @@ impl Graph {
         self.next.iter().flatten().all(|&t| self.keeps(t))
     }
 
-    // Whether a path from s comes to a goal, and no state before it is a stop. In a total list every path goes on for ever.
+    // Whether a path from s comes to a goal, and no state before it is a stop. In a total list every path goes on for
+    // ever.
     fn comes(&self, s: usize, goal: States, stop: States) -> bool {
         self.comes_on(s, goal, stop, &mut vec![false; self.next.len()])
     }
@@ -85,7 +86,8 @@ impl Graph {
             // release: no path loses b before a was there; one keeps b until a is there too, or for ever
             8 => !self.comes(s, &not_b, &a),
             9 => self.lasts(s, &b, &a),
-            // until: no path goes without b for ever, or to where a fails too; one comes to b, and a does not fail before
+            // until: no path goes without b for ever, or to where a fails too; one comes to b, and a does not fail
+            // before
             10 => !self.lasts(s, &not_b, &not_a),
             11 => self.comes(s, &b, &not_a),
             // eventually: no path goes without a for ever; one comes to a
@@ -125,7 +127,7 @@ impl Graph {
     }
 }
 
-// 0 where the list is a repair in A3's narrower sense, else 11, 12, 16 or 13, tested in this order.
+// 0 where the list is a repair in the narrower sense, else 11, 12, 16 or 13, tested in this order.
 pub fn judge(table: &Table, kept: &[bool]) -> u32 {
     let graph = Graph::new(table, kept);
     if !graph.total() {
@@ -145,7 +147,7 @@ pub fn narrow_repair(table: &Table, kept: &[bool]) -> bool {
     judge(table, kept) == 0
 }
 
-// Whether the list is a repair in 01's sense: its kept states need not be reachable.
+// Whether the list is a repair in the wider sense: its kept states need not be reached.
 pub fn repair(table: &Table, kept: &[bool]) -> bool {
     let graph = Graph::new(table, kept);
     let starts = graph.starts(table);
@@ -163,7 +165,8 @@ fn lists(table: &Table) -> impl Iterator<Item = Vec<bool>> {
     (0..1usize << e).rev().map(move |number| (0..e).map(|j| number >> (e - 1 - j) & 1 == 1).collect())
 }
 
-// Of all repairs in one of these senses the cheapest, and of equal prices the one that ranks first, by trying every list in this order.
+// Of all repairs in one of these senses the cheapest, and of equal prices the one that ranks first, by trying every
+// list in this order.
 pub fn cheapest(table: &Table, is_repair: fn(&Table, &[bool]) -> bool) -> Option<Vec<u8>> {
     let mut lists: Vec<Vec<bool>> = lists(table).collect();
     // sorting keeps the order of rank where prices are equal
@@ -172,7 +175,7 @@ pub fn cheapest(table: &Table, is_repair: fn(&Table, &[bool]) -> bool) -> Option
     Some(found.iter().map(|&k| k as u8).collect())
 }
 
-// How many steps all repairs in 01's sense keep, or all strike. Without a repair these are all steps.
+// How many steps all repairs in the wider sense keep, or all strike. Without a repair these are all steps.
 pub fn alike(table: &Table) -> usize {
     let repairs: Vec<Vec<bool>> = lists(table).filter(|kept| repair(table, kept)).collect();
     (0..table.steps.len()).filter(|&j| repairs.windows(2).all(|two| two[0][j] == two[1][j])).count()

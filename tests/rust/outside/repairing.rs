@@ -1,4 +1,5 @@
-// Repair on an accepted table, at several caps and with several buffers. Small tables are also tried by every list there is.
+// Repair on an accepted table, at several caps and with several buffers. Small tables are also tried by every list
+// there is.
 use crate::calls::{hex, Calls};
 use crate::clauses;
 use crate::closure;
@@ -46,7 +47,8 @@ fn caps(random: &mut Random, answer: &clauses::Answer, limit: u64) -> Vec<u64> {
     vec![random.pick(&enough), random.pick(&few)]
 }
 
-// The list that the clauses gave is a repair in 01's sense, and has this price; struck it is a repair in the narrower sense.
+// The list that the clauses gave is a repair in the wider sense, and has this price; struck it is a repair in the
+// narrower sense.
 fn repairs(table: &Table, before: &[u8], price: u32) -> Result<(), String> {
     let kept = |list: &[u8]| accept_list(table, list).map_err(|_| "the clauses gave no list");
     if !meaning::repair(table, &kept(before)?) {
@@ -61,8 +63,8 @@ fn repairs(table: &Table, before: &[u8], price: u32) -> Result<(), String> {
     Ok(())
 }
 
-// What the answer without a cap says must be so by the meaning of the rule. There is none exactly where no list is a repair, in either sense; price
-// and rank are those of the list before striking.
+// What the answer without a cap says must be so by the meaning of the rule. There is none exactly where no list is a
+// repair, in either sense; price and rank are those of the list before striking.
 fn means(table: &Table, answer: &clauses::Answer) -> Result<(), String> {
     let found = (answer.number == 0).then_some(&answer.list);
     if let Some(before) = found {
@@ -81,8 +83,9 @@ fn means(table: &Table, answer: &clauses::Answer) -> Result<(), String> {
     Ok(())
 }
 
-// How many steps an answer may have as settled, where some choices were allowed. With no choice made it is all of them for found, and 0 for none,
-// since the closure failed. Else there was one to choose; those that no total list keeps are settled, and the settled ones are alike in all repairs.
+// How many steps an answer may have as settled, where some choices were allowed. With no choice made it is all of them
+// for found, and 0 for none, since the closure failed. Else there was one to choose; those that no total list keeps are
+// settled, and the settled ones are alike in all repairs.
 fn settled_fits(table: &Table, answer: &clauses::Answer) -> bool {
     let (e, settled) = (table.steps.len(), answer.settled as usize);
     if answer.choices == 0 {
@@ -122,7 +125,10 @@ pub fn compare(calls: &mut Calls, random: &mut Random, bytes: &[u8], table: &Tab
     for cap in caps(random, &answer, limit) {
         let rooms = rooms(random, e, v);
         // the settled steps are the same under every cap
-        calls.repair(random, bytes, cap, rooms, v, || clauses::Answer { settled: answer.settled, ..clauses::search(&net, cap) })?;
+        calls.repair(random, bytes, cap, rooms, v, || clauses::Answer {
+            settled: answer.settled,
+            ..clauses::search(&net, cap)
+        })?;
     }
     if answer.number != 0 {
         return Ok(vec![]);

@@ -2,8 +2,8 @@
 use crate::random::Random;
 
 const WORDS: [&str; 24] = [
-    "255", "256", "257", "260", "300", "999", "1000", "65535", "65536", "65791", "131072", "4294967296", "18446744073709551616", "00", "01", "007", "-0",
-    "+1", "", " ", "1e1", "0x1", "a", "3 3",
+    "255", "256", "257", "260", "300", "999", "1000", "65535", "65536", "65791", "131072", "4294967296",
+    "18446744073709551616", "00", "01", "007", "-0", "+1", "", " ", "1e1", "0x1", "a", "3 3",
 ];
 
 pub fn text(random: &mut Random, text: &mut Vec<u8>) {
@@ -68,7 +68,8 @@ fn line(random: &mut Random, text: &mut Vec<u8>) {
     *text = lines.concat();
 }
 
-// The last word of a line taken out, with the space before it: a line of the steps, or their names, as it was before there was a price.
+// The last word of a line taken out, with the space before it: a line of the steps, or the line of their names, without
+// the price.
 fn last_word(random: &mut Random, text: &mut Vec<u8>) {
     let ends: Vec<usize> = (0..text.len()).filter(|&i| text[i] == 10).collect();
     if ends.is_empty() {

@@ -1,4 +1,5 @@
-// What each call should answer, by the modules beside this one. The tests go in the order of their numbers, but 16 comes before 13.
+// What each call should answer, by the modules beside this one. The tests go in the order of their numbers, but 16
+// comes before 13.
 use crate::clauses;
 use crate::meaning::{self, Graph};
 use crate::sheet;
@@ -56,7 +57,8 @@ pub struct Rooms {
     pub words: usize,
 }
 
-// `search` gives the answer of the search with a net's clauses; it is asked only where nothing is refused. What it finds is struck.
+// `search` gives the answer of the search with a net's clauses; it is asked only where nothing is refused. What it
+// finds is struck.
 pub fn repair(table: &[u8], rooms: Rooms, search: impl FnOnce() -> clauses::Answer) -> Result<clauses::Answer, u32> {
     let table = accept(table)?;
     let v = crate::table::variables(&table);

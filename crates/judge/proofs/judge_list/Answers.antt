@@ -13,8 +13,7 @@ use Rattle.std.proofs.Common.{rules}
 use Rattle.table.specs.Facts.{Wellformed}
 use Rattle.table.proofs.Facts.{accepted}
 use Rattle.table.specs.Verdict.{require, ◌then◌}
-use Rattle.table.specs.Table.{table_of}
-use Rattle.table.specs.Accept.{initial_at}
+use Rattle.table.specs.Table.{table_of, initial_at}
 use Rattle.table.proofs.Verdicts.{then_refused, then_next}
 use Rattle.ctl.specs.Labels.{is_kept}
 use Rattle.ctl.specs.Reached.{is_initial_kept}
@@ -58,25 +57,33 @@ module _ (table list : List ℕ) {a : Analysis} (way : Ok a ≡ analysis_of Any 
     keeps : not (eqb w 0) ≡ keeps_initial (table_of table) list
     keeps = keeps_word (table_of table) wf list w starts_are
 
-    leaves : (r : ℕ) → Least a.rows w r → (x : ℕ) → x ≡ set_of 32 (λ t. member a.kept t && not (member r t)) → eqb x 0 ≡ leaves_reached (table_of table) list
+    leaves : (r : ℕ) → Least a.rows w r → (x : ℕ) → x ≡ set_of 32 (λ t. member a.kept t && not (member r t))
+        → eqb x 0 ≡ leaves_reached (table_of table) list
     leaves r least x g =
         unreached_word (table_of table) wf list a.kept r x (ap (λ (x : Analysis). x.kept) e)
         (reached_word (table_of table) wf list a.rows (ap (λ (x : Analysis). x.rows) e) w starts_are r least) g
 
-    root_marks : (x : ℕ) → x ≡ set_of 32 (λ t. member w t && not (member a.root t)) → eqb x 0 ≡ root_marked (table_of table) list
+    root_marks : (x : ℕ) → x ≡ set_of 32 (λ t. member w t && not (member a.root t))
+        → eqb x 0 ≡ root_marked (table_of table) list
     root_marks x g = root_word (table_of table) wf list w a.root x starts_are (ap (λ (x : Analysis). x.root) e) g
 
     -- with an initial state that is kept, 16 and 13 are left, and the set x decides 16
-    module _ (some : ¬ (w ≡ 0)) {r : ℕ} (least : Least a.rows w r) {x : ℕ} (g : x ≡ set_of 32 (λ t. member a.kept t && not (member r t))) where
-      reached_left : judge_verdict table list ≡ require UnreachedStep (eqb x 0) then require RootFails (root_marked (table_of table) list)
+    module _ (some : ¬ (w ≡ 0)) {r : ℕ} (least : Least a.rows w r) {x : ℕ}
+        (g : x ≡ set_of 32 (λ t. member a.kept t && not (member r t))) where
+      reached_left : judge_verdict table list
+          ≡ require UnreachedStep (eqb x 0) then require RootFails (root_marked (table_of table) list)
       reached_left =
           left
           ∙ then_next _ _ (ap (require NoInitialKept) (sym keeps ∙ ap not (ne_eqb w 0 some)))
-          ∙ ap (λ (b : Bool). require UnreachedStep b then require RootFails (root_marked (table_of table) list)) (sym (leaves r least x g))
+          ∙ ap (λ (b : Bool). require UnreachedStep b then require RootFails (root_marked (table_of table) list))
+          (sym (leaves r least x g))
 
       -- with every kept state reached too, 13 is left, and the set y decides it
-      root_left : x ≡ 0 → {y : ℕ} → y ≡ set_of 32 (λ t. member w t && not (member a.root t)) → {b : Bool} → eqb y 0 ≡ b → require RootFails b ≡ judge_verdict table list
-      root_left all m told = sym (reached_left ∙ then_next _ _ (ap (require UnreachedStep) (eq-eqb x 0 all)) ∙ ap (require RootFails) (sym (root_marks _ m) ∙ told))
+      root_left : x ≡ 0 → {y : ℕ} → y ≡ set_of 32 (λ t. member w t && not (member a.root t)) → {b : Bool} → eqb y 0 ≡ b
+          → require RootFails b ≡ judge_verdict table list
+      root_left all m told =
+          sym (reached_left ∙ then_next _ _ (ap (require UnreachedStep) (eq-eqb x 0 all))
+          ∙ ap (require RootFails) (sym (root_marks _ m) ∙ told))
 
 pub returns-in_err-table : goal.returns-in_err-table
 returns-in_err-table c =
@@ -94,7 +101,8 @@ returns-in_err-a c =
     let l = c.args.list.now in
     let r = c.in_err-a.field-0.0 in
     let gives : c.from_residual-in_err-a.result ≡ Err r = search rules in
-    let refused = way_refused Any t l r (sym c.in_err-a.was ∙ analysis_moved Any l _ t c.in_ok-table.ensures.0 _ c.analyse.ensures) in
+    let refused = way_refused Any t l r
+    (sym c.in_err-a.was ∙ analysis_moved Any l _ t c.in_ok-table.ensures.0 _ c.analyse.ensures) in
     let told = gives ∙ sym (judge_order t l ∙ then_refused (analysis_verdict true t l) _ r refused ∙ refused) in
     record { value = told; exact = verdict_exact t l _ told; refused = verdict_refuses t l _ told }
 
@@ -103,7 +111,8 @@ returns-then-starts-eq0 c =
     let t = c.args.table.now in
     let l = c.args.list.now in
     let way = sym c.in_ok-a.was ∙ analysis_moved Any l _ t c.in_ok-table.ensures.0 _ c.analyse.ensures in
-    let refuses = ap (require NoInitialKept) (sym (keeps _ _ way c.intersection-starts.ensures) ∙ ap not (eq-eqb _ 0 c.if-starts-eq0.true)) in
+    let refuses = ap (require NoInitialKept)
+    (sym (keeps _ _ way c.intersection-starts.ensures) ∙ ap not (eq-eqb _ 0 c.if-starts-eq0.true)) in
     let told = sym (left _ _ way ∙ then_refused _ _ NoInitialKept refuses ∙ refuses) in
     record { value = told; exact = verdict_exact t l _ told; refused = verdict_refuses t l _ told }
 
@@ -114,7 +123,8 @@ returns-then-minus-ne0 c =
     let way = sym c.in_ok-a.was ∙ analysis_moved Any l _ t c.in_ok-table.ensures.0 _ c.analyse.ensures in
     let refuses = ap (require UnreachedStep) (ne_eqb c.minus.result 0 c.if-minus-ne0.true) in
     let told = sym (
-    reached_left _ _ way c.intersection-starts.ensures c.if-starts-eq0.false c.reached_states-reached.ensures c.minus.ensures
+    reached_left _ _ way c.intersection-starts.ensures c.if-starts-eq0.false c.reached_states-reached.ensures
+    c.minus.ensures
     ∙ then_refused _ _ UnreachedStep refuses ∙ refuses
     ) in
     record { value = told; exact = verdict_exact t l _ told; refused = verdict_refuses t l _ told }

@@ -14,7 +14,7 @@ use Rattle.closure.proofs.WordsFit.{words_fit}
 use Rattle.search.specs.Answer.{answer_of}
 use Rattle.search.specs.TableSearch.{search_under}
 use Rattle.walk.specs.KeptWords.{room_total}
-use Rattle.repair.specs.Outcome.{written_after}
+use Rattle.repair.specs.Effect.{written_after}
 use Rattle.repair.proofs.Cleared.{front_filled, lent_filled}
 use Rattle.repair.proofs.Order.{short_list, short_bytes, short_words, long_enough, left}
 use Rattle.repair.proofs.repair_accepted.Goals as goal

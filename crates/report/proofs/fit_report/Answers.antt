@@ -3,7 +3,7 @@ use Prim.Native.Nat.{ℕ, ◌≤◌}
 use mathlib.Core.Path.{◌≡◌, sym}
 use mathlib.Core.List.{List, ◌++◌}
 use lib.ListN.{length, drop}
-use Rattle.render.specs.Render.{Stored}
+use Rattle.render.specs.Stored.{Stored}
 use Rattle.render.proofs.Left.{room_as, stored_as}
 use Rattle.report.specs.Report.{fit_text}
 use Rattle.report.proofs.Cases.{too_long, text_is, text_room, stored_front}

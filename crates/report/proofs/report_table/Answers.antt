@@ -4,8 +4,9 @@ use mathlib.Core.Path.{◌≡◌}
 use mathlib.Core.List.{List}
 use Rattle.search.specs.declared.answer.Answer.{Answer}
 use Rattle.render.proofs.Left.{room_as, stored_as}
-use Rattle.repair.specs.Outcome.{repair_answer, repair_list}
-use Rattle.report.specs.Report.{answer_text, zeros, cap, table_text}
+use Rattle.repair.specs.Effect.{repair_answer, repair_list}
+use Rattle.report.specs.Texts.{cap}
+use Rattle.report.specs.Report.{answer_text, zeros, table_text}
 use Rattle.report.proofs.report_table.Goals as goal
 
 -- Repair's answer and list are those of the definition

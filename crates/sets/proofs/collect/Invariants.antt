@@ -6,4 +6,5 @@ use Rattle.sets.specs.Member.{set_of}
 use Rattle.sets.proofs.collect.Given as goal
 
 abbrev pub invariant-loop-s : goal.invariant-loop-s
-invariant-loop-s g l = (P : ℕ → Bool) → ((s : ℕ) (b : Bool) → s < l.fn.n → goal.F-post g l.fn.test s b → b ≡ P s) → l.set ≡ set_of l.s P
+invariant-loop-s g l =
+    (P : ℕ → Bool) → ((s : ℕ) (b : Bool) → s < l.fn.n → goal.F-post g l.fn.test s b → b ≡ P s) → l.set ≡ set_of l.s P

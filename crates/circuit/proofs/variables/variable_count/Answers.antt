@@ -1,5 +1,5 @@
--- `variable_count` meets its contract. The loop's invariant: the sum so far is small, and with the costs of the nodes from i on it is
--- the whole.
+-- `variable_count` meets its contract. The loop's invariant: the sum so far is small, and with the costs of the nodes
+-- from i on it is the whole.
 use Prim.Native.Nat.{ℕ, ◌+◌, ◌≤◌, ◌<◌}
 use mathlib.Core.Path.{◌≡◌, refl, sym, ap, ◌∙◌}
 use mathlib.Core.List.{List}
@@ -20,11 +20,13 @@ use Rattle.circuit.proofs.variables.variable_count.Goals as goal
 
 -- how many states, steps and nodes an accepted table has at most
 few : (bytes : List ℕ) → table_verdict bytes ≡ Ok tt
-    → (length (table_of bytes).states ≤ 32) × (length (table_of bytes).steps ≤ 128) × (length (table_of bytes).nodes ≤ 32)
+    → (length (table_of bytes).states ≤ 32) × (length (table_of bytes).steps ≤ 128)
+    × (length (table_of bytes).nodes ≤ 32)
 few bytes ok = let t = (accepted bytes ok).table in (t.few_states, t.few_steps, t.few_nodes)
 
 -- the nodes from i on cost what the one at i does, and those after it
-one : (n e : ℕ) (nodes : List Node) (i : ℕ) → i < length nodes → (o : Operator) → o ≡ operator_of (get_or nodes i zero_node)
+one : (n e : ℕ) (nodes : List Node) (i : ℕ) → i < length nodes → (o : Operator)
+    → o ≡ operator_of (get_or nodes i zero_node)
     → costs n e (drop i nodes) ≡ cost_of n e o + costs n e (drop (i + 1) nodes)
 unfolding costs
 one n e nodes i h o is =
@@ -85,7 +87,8 @@ returns-clause-formula c =
     let bytes = c.args.table.now.bytes.now in
     let n = c.state_count-n.result in
     let e = c.step_count-e.result in
-    let past : length (table_of bytes).nodes ≤ c.loop-i.i = omega (arith, c.loop-i-test.false, c.node_count-i-end.ensures) in
+    let past : length (table_of bytes).nodes ≤ c.loop-i.i =
+    omega (arith, c.loop-i-test.false, c.node_count-i-end.ensures) in
     let none = ap (costs n e) (drop_of_length-le (table_of bytes).nodes {i = c.loop-i.i} past) in
     omega (arith, c.loop-i.invariant.2, none, whole bytes n e c.state_count-n.ensures c.step_count-e.ensures)
 

@@ -1,5 +1,5 @@
--- `variable_count` meets its contract. The loop's invariant: the sum so far is small, and with the costs of the nodes from i on it is
--- the whole.
+-- `variable_count` meets its contract. The loop's invariant: the sum so far is small, and with the costs of the nodes
+-- from i on it is the whole.
 use Prim.Native.Nat.{◌+◌, ◌*◌, ◌≤◌}
 use mathlib.Core.Path.{◌≡◌}
 use lib.ListN.{drop}

@@ -1,4 +1,5 @@
--- `level_bases` meets its contract. The loop's invariant: the bases of the nodes before i are stored, and `total` is that of node i.
+-- `level_bases` meets its contract. The loop's invariant: the bases of the nodes before i are stored, and `total` is
+-- that of node i.
 use Prim.Native.Nat.{ℕ, ◌*◌, ◌≤◌, ◌<◌}
 use mathlib.Core.Path.{◌≡◌}
 use lib.ListN.{length, get_or}

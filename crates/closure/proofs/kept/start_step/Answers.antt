@@ -37,4 +37,5 @@ returns-clause-marked c = rows_then c.add_kept.ensures.marked c.add_node.ensures
 pub returns-clause-calm : goal.returns-clause-calm
 returns-clause-calm c =
     calm_then c.both-first.result c.add_node.result c.both.result c.both.ensures
-    (calm_then _ c.add_kept.result c.both-first.result c.both-first.ensures (λ e i. c.args.looks.now) c.add_kept.ensures.calm) c.add_node.ensures.calm
+    (calm_then _ c.add_kept.result c.both-first.result c.both-first.ensures (λ e i. c.args.looks.now)
+    c.add_kept.ensures.calm) c.add_node.ensures.calm

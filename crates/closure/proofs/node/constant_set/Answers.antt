@@ -11,7 +11,8 @@ use Rattle.closure.proofs.node.constant_set.Goals as goal
 
 all-states : (n : ℕ) → n ≤ 32 → set_of 32 (λ t. ltb t n) ≡ set_of n (λ s. true)
 all-states n h = sym (set_of_unique 32 (λ t. ltb t n) (set_of n (λ s. true))
-    (lt_of_lt_of_le (set_of-lt n (λ s. true)) (pow_mono {i = n} {j = 32} h)) (λ s l. member-set_of n (λ s. true) s ∙ and-true (ltb s n)))
+    (lt_of_lt_of_le (set_of-lt n (λ s. true)) (pow_mono {i = n} {j = 32} h))
+    (λ s l. member-set_of n (λ s. true) s ∙ and-true (ltb s n)))
 
 no-states : (n : ℕ) → set_of n (λ s. false) ≡ 0
 no-states n = empty n _ (set_of-lt n _) (λ s h. member-set_of n _ s ∙ and-false (ltb s n))

@@ -36,26 +36,39 @@ module _ {o : Operator} (below : (c : ℕ) → is_child o c ≡ true → c < 32)
     below b (ap (λ (x : Operator). is_child x b) is ∙ or_right (eqb a b) _ (self b)),
   )
 
-pub same_step-requires-clause-places : goal.same_step-requires-clause-places
-same_step-requires-clause-places c = (c.requires.i_below, in_negation c.requires.children_below c.in-Negation.a 0 c.in-Negation.is)
+pub one_input_step-requires-clause-places : goal.one_input_step-requires-clause-places
+one_input_step-requires-clause-places c = (
+  c.requires.i_below,
+  in_negation c.requires.children_below c.in-Negation.a 0 c.in-Negation.is,
+)
 
 pub pair_step-requires-clause-places : goal.pair_step-requires-clause-places
-pair_step-requires-clause-places c = (c.requires.i_below, in_conjunction c.requires.children_below c.in-Conjunction.a c.in-Conjunction.b c.in-Conjunction.is)
+pair_step-requires-clause-places c = (
+  c.requires.i_below,
+  in_conjunction c.requires.children_below c.in-Conjunction.a c.in-Conjunction.b c.in-Conjunction.is,
+)
 
 pub pair_step-requires-in-Disjunction-clause-places : goal.pair_step-requires-in-Disjunction-clause-places
-pair_step-requires-in-Disjunction-clause-places c =
-    (c.requires.i_below, in_disjunction c.requires.children_below c.in-Disjunction.a c.in-Disjunction.b c.in-Disjunction.is)
+pair_step-requires-in-Disjunction-clause-places c = (
+  c.requires.i_below,
+  in_disjunction c.requires.children_below c.in-Disjunction.a c.in-Disjunction.b
+      c.in-Disjunction.is,
+)
 
 pub next_step-requires-clause-places : goal.next_step-requires-clause-places
-next_step-requires-clause-places c =
-    (c.requires.i_below, c.requires.children_below c.in-Next.a (ap (λ (x : Operator). is_child x c.in-Next.a) c.in-Next.is ∙ self c.in-Next.a))
+next_step-requires-clause-places c = (
+  c.requires.i_below,
+  c.requires.children_below c.in-Next.a
+      (ap (λ (x : Operator). is_child x c.in-Next.a) c.in-Next.is ∙ self c.in-Next.a),
+)
 
 pub returns-in-Constant-clause-value : goal.returns-in-Constant-clause-value
 unfolding node_step
 returns-in-Constant-clause-value c =
     let a = c.args in
     let n = a.graph.now.states in
-    λ w. added a.rows.now (node_place a.i) (c.constant_row.ensures ∙ ap (constant_row n) c.constant_set-set.ensures) c.add_node.ensures.value c.add_node.ensures.rows_after w
+    λ w. added a.rows.now (node_place a.i) (c.constant_row.ensures ∙ ap (constant_row n) c.constant_set-set.ensures)
+    c.add_node.ensures.value c.add_node.ensures.rows_after w
     ∙ ap (λ (o : Operator). node_step a.table.now.bytes.now a.graph.now.targets n a.look a.i o (memory a.rows.now w))
     (sym c.in-Constant.is)
 
@@ -64,15 +77,18 @@ unfolding node_step
 returns-in-Atom-clause-value c =
     let a = c.args in
     let n = a.graph.now.states in
-    let set = c.labelled_states-set.ensures ∙ ap (λ (l : List ℕ). labelled_word l n c.in-Atom.p) a.table.now.states_are in
-    λ w. added a.rows.now (node_place a.i) (c.constant_row-in-Atom.ensures ∙ ap (constant_row n) set) c.add_node-in-Atom.ensures.value c.add_node-in-Atom.ensures.rows_after w
-    ∙ ap (λ (o : Operator). node_step a.table.now.bytes.now a.graph.now.targets n a.look a.i o (memory a.rows.now w)) (sym c.in-Atom.is)
+    let set = c.labelled_states-set.ensures
+    ∙ ap (λ (l : List ℕ). labelled_word l n c.in-Atom.p) a.table.now.states_are in
+    λ w. added a.rows.now (node_place a.i) (c.constant_row-in-Atom.ensures ∙ ap (constant_row n) set)
+    c.add_node-in-Atom.ensures.value c.add_node-in-Atom.ensures.rows_after w
+    ∙ ap (λ (o : Operator). node_step a.table.now.bytes.now a.graph.now.targets n a.look a.i o (memory a.rows.now w))
+    (sym c.in-Atom.is)
 
 pub returns-in-Negation-clause-value : goal.returns-in-Negation-clause-value
 unfolding node_step
 returns-in-Negation-clause-value c =
     let a = c.args in
-    λ w. c.same_step.ensures.value w
+    λ w. c.one_input_step.ensures.value w
     ∙ ap (λ (o : Operator). node_step a.table.now.bytes.now a.graph.now.targets a.graph.now.states a.look a.i o
     (memory a.rows.now w)) (sym c.in-Negation.is)
 

@@ -15,6 +15,7 @@ WordOf first m k = k ≡ first + m
 
 abbrev pub invariant-loop-k : goal.invariant-loop-k
 invariant-loop-k l = record {
-  looked : Looked (table_in l.net) (Among (WordOf l.x.word) l.down l.net.graph.states l.k) Always l.initial.looks l.looks (memory l.initial.rows l.initial.words) (memory l.rows l.words) l.report;
+  looked : Looked (table_in l.net) (Among (WordOf l.x.word) l.down l.net.graph.states l.k) Always l.initial.looks
+      l.looks (memory l.initial.rows l.initial.words) (memory l.rows l.words) l.report;
   seen_rests : SeenRest (table_in l.net) l.x l.seen (knowledge (table_in l.net) (memory l.rows l.words));
 }

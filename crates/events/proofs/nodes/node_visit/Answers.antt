@@ -1,4 +1,5 @@
--- `node_visit` meets its contract: nothing where its words are empty; else a fixed point by its levels, any other node as a whole.
+-- `node_visit` meets its contract: nothing where its words are empty; else a fixed point by its levels, any other
+-- node as a whole.
 use native.Mathlib.Omega.{arith}
 use mathlib.Core.Path.{sym, ap, ◌∙◌}
 use Rattle.ctl.specs.Rule.{operator_of}
@@ -33,14 +34,21 @@ overflow_add-end c = record { fits = omega (arith, low c.args.net.now c.args.i c
 pub are_empty-requires : goal.are_empty-requires
 are_empty-requires c =
     let net = c.args.net.now in
-    omega (arith, words_end_at net c.args.i c.requires.i_below, cells_in (table_in net) c.args.i c.requires.i_below, c.requires.room)
+    omega (
+      arith,
+      words_end_at net c.args.i c.requires.i_below,
+      cells_in (table_in net) c.args.i c.requires.i_below,
+      c.requires.room,
+    )
 
 pub returns-then-are_empty : goal.returns-then-are_empty
 returns-then-are_empty c =
     let a = c.args in
     let net = a.net.now in
     let T = table_in net in
-    looked_so (λ x f k e. c.are_empty.ensures c.if-are_empty.true k (omega (arith, e.0, words_begin net a.i c.requires.i_below)) (omega (arith, e.1, words_end_at net a.i c.requires.i_below))) (λ z. z)
+    looked_so (λ x f k e. c.are_empty.ensures c.if-are_empty.true k
+    (omega (arith, e.0, words_begin net a.i c.requires.i_below))
+    (omega (arith, e.1, words_end_at net a.i c.requires.i_below))) (λ z. z)
     (looked_none T a.looks.now (memory a.rows.now a.words.now) c.requires.sized c.default.result c.default.ensures)
 
 pub returns-in_default : goal.returns-in_default

@@ -11,7 +11,9 @@ returns-then-report c =
     let l = c.loop-k in
     let f = c.node_count-f.result in
     let i = c.in_order-i in
-    looked_failed c.if-report.true (among_next (CellsOf (table_in a.net.now)) a.down f l.k i.result i.ensures l.invariant c.node_visit.ensures c.both-report.ensures)
+    looked_failed c.if-report.true
+    (among_next (CellsOf (table_in a.net.now)) a.down f l.k i.result i.ensures l.invariant c.node_visit.ensures
+    c.both-report.ensures)
 
 pub loop-k-preserved : goal.loop-k-preserved
 loop-k-preserved c =
@@ -19,9 +21,11 @@ loop-k-preserved c =
     let l = c.loop-k in
     let f = c.node_count-f.result in
     let i = c.in_order-i in
-    among_next (CellsOf (table_in a.net.now)) a.down f l.k i.result i.ensures l.invariant c.node_visit.ensures c.both-report.ensures
+    among_next (CellsOf (table_in a.net.now)) a.down f l.k i.result i.ensures l.invariant c.node_visit.ensures
+    c.both-report.ensures
 
 pub returns : goal.returns
 returns c =
     let l = c.loop-k in
-    among_all (CellsOf (table_in c.args.net.now)) c.args.down c.node_count-f.result l.k _ (omega (arith, l.auto.k-end, c.loop-k-test.false)) c.node_count-f.ensures l.invariant
+    among_all (CellsOf (table_in c.args.net.now)) c.args.down c.node_count-f.result l.k _
+    (omega (arith, l.auto.k-end, c.loop-k-test.false)) c.node_count-f.ensures l.invariant

@@ -6,12 +6,12 @@ use Rattle.events.specs.NetTable.{table_in}
 use Rattle.closure.specs.Knowledge.{knowledge, total}
 use Rattle.events.specs.Watched.{Watched}
 use Rattle.propagate.specs.Memory.{memory}
-use Rattle.events.proofs.Closing.{Reached}
+use Rattle.events.proofs.Closing.{Swept}
 use Rattle.events.proofs.sweep.close.Given as goal
 
 abbrev pub invariant-loop-r : goal.invariant-loop-r
 invariant-loop-r l =
-    Reached (table_in l.net) (memory l.initial.rows l.initial.words) (memory l.rows l.words)
+    Swept (table_in l.net) (memory l.initial.rows l.initial.words) (memory l.rows l.words)
     × Watched (table_in l.net) l.looks (knowledge (table_in l.net) (memory l.rows l.words))
     × (length l.looks ≡ length l.initial.looks)
 

@@ -27,14 +27,26 @@ offset_bounds-looks-place c =
     let net = c.args.net.now in
     let T = table_in net in
     let i = c.args.i in
-    record { fits = omega (arith, words_begin net i c.requires.i_below, cells_in T i c.requires.i_below, few_words T (wellformed net)) }
+    record {
+      fits = omega (
+        arith,
+        words_begin net i c.requires.i_below,
+        cells_in T i c.requires.i_below,
+        few_words T (wellformed net),
+      );
+    }
 
 pub bounds-looks-place : goal.bounds-looks-place
 bounds-looks-place c =
     let net = c.args.net.now in
     let T = table_in net in
     let i = c.args.i in
-    omega (arith, words_begin net i c.requires.i_below, plain_first T i (ap has_levels (sym c.requires.is_operator) ∙ c.requires.plain) c.requires.i_below, c.requires.room)
+    omega (
+      arith,
+      words_begin net i c.requires.i_below,
+      plain_first T i (ap has_levels (sym c.requires.is_operator) ∙ c.requires.plain) c.requires.i_below,
+      c.requires.room,
+    )
 
 pub returns-then-word-eq0 : goal.returns-then-word-eq0
 returns-then-word-eq0 c =
@@ -42,7 +54,8 @@ returns-then-word-eq0 c =
     let net = a.net.now in
     let T = table_in net in
     let plain = ap has_levels (sym c.requires.is_operator) ∙ c.requires.plain in
-    λ w sized. looked_so (λ x f k e. ap (λ (j : ℕ). get_or a.looks.now j 0) (plain_only T a.i k plain e ∙ plain_place net a.i c.requires.i_below) ∙ c.if-word-eq0.true) (λ z. z)
+    λ w sized. looked_so (λ x f k e. ap (λ (j : ℕ). get_or a.looks.now j 0)
+    (plain_only T a.i k plain e ∙ plain_place net a.i c.requires.i_below) ∙ c.if-word-eq0.true) (λ z. z)
     (looked_none T a.looks.now (memory a.rows.now w) sized c.default.result c.default.ensures)
 
 pub node_step-report-requires-clause-i_below : goal.node_step-report-requires-clause-i_below
@@ -53,7 +66,8 @@ node_step-report-requires-clause-children_below c =
     let net = c.args.net.now in
     let wf = wellformed net in
     λ k e.
-    let below = child_below c.args.i _ (children_below (table_in net) wf c.args.i c.requires.i_below) k (ap (λ (o : Operator). is_child o k) (sym c.requires.is_operator) ∙ e) in
+    let below = child_below c.args.i _ (children_below (table_in net) wf c.args.i c.requires.i_below) k
+    (ap (λ (o : Operator). is_child o k) (sym c.requires.is_operator) ∙ e) in
     omega (arith, below, low net c.args.i c.requires.i_below)
 
 pub node_step-report-requires-clause-room : goal.node_step-report-requires-clause-room
@@ -65,8 +79,10 @@ returns-then-not-is_quiet c =
     let net = a.net.now in
     let s = c.node_step-report in
     let plain = ap has_levels (sym c.requires.is_operator) ∙ c.requires.plain in
-    λ w sized. plain_loud net a.i c.requires.i_below plain a.rows.now s.new.rows a.looks.now s.new.looks (omega (arith, c.requires.room, s.ensures.marked.raised.same_length)) s.result
-    s.ensures.calm s.ensures.marked c.below.result c.below.ensures _ refl a.operator c.requires.is_operator s.ensures.value w sized
+    λ w sized. plain_loud net a.i c.requires.i_below plain a.rows.now s.new.rows a.looks.now s.new.looks
+    (omega (arith, c.requires.room, s.ensures.marked.raised.same_length)) s.result
+    s.ensures.calm s.ensures.marked c.below.result c.below.ensures _ refl a.operator c.requires.is_operator
+    s.ensures.value w sized
     (sym c.is_quiet.ensures ∙ c.if-not-is_quiet.true)
 
 pub returns : goal.returns
@@ -75,6 +91,8 @@ returns c =
     let net = a.net.now in
     let s = c.node_step-report in
     let plain = ap has_levels (sym c.requires.is_operator) ∙ c.requires.plain in
-    λ w sized. plain_calm net a.i c.requires.i_below plain a.rows.now s.new.rows a.looks.now s.new.looks (omega (arith, c.requires.room, s.ensures.marked.raised.same_length)) s.result
-    s.ensures.calm s.ensures.marked c.below.result c.below.ensures _ refl a.operator c.requires.is_operator s.ensures.value w sized
+    λ w sized. plain_calm net a.i c.requires.i_below plain a.rows.now s.new.rows a.looks.now s.new.looks
+    (omega (arith, c.requires.room, s.ensures.marked.raised.same_length)) s.result
+    s.ensures.calm s.ensures.marked c.below.result c.below.ensures _ refl a.operator c.requires.is_operator
+    s.ensures.value w sized
     (sym c.is_quiet.ensures ∙ c.if-not-is_quiet.false)

@@ -1,4 +1,5 @@
--- `reached_states` meets its contract. The loop's invariant: what is reached so far lies in every closed set, and is closed but for the states left.
+-- `reached_states` meets its contract. The loop's invariant: what is reached so far lies in every closed set, and is
+-- closed but for the states left.
 use Prim.Native.Nat.{◌<◌}
 use native.Mathlib.Omega.{arith}
 use Rattle.sets.proofs.Walk.{lowest_below}
@@ -10,11 +11,14 @@ loop-left-init c = looked_first _ _ c.ranges.starts.fits
 
 pub offset_bounds-rows-s : goal.offset_bounds-rows-s
 offset_bounds-rows-s c =
-    let lowest_small : c.lowest-s.result < 32 = rw c.lowest-s.ensures (lowest_below c.loop-left.left c.loop-left.invariant.left_small c.loop-left-test.true) in
+    let lowest_small : c.lowest-s.result
+    < 32 =
+    rw c.lowest-s.ensures (lowest_below c.loop-left.left c.loop-left.invariant.left_small c.loop-left-test.true) in
     omega (arith, lowest_small)
 
 pub bounds-rows-s : goal.bounds-rows-s
-bounds-rows-s c = rw c.lowest-s.ensures (lowest_below c.loop-left.left c.loop-left.invariant.left_small c.loop-left-test.true)
+bounds-rows-s c =
+    rw c.lowest-s.ensures (lowest_below c.loop-left.left c.loop-left.invariant.left_small c.loop-left-test.true)
 
 pub loop-left-smaller : goal.loop-left-smaller
 loop-left-smaller c =

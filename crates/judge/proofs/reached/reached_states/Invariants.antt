@@ -1,4 +1,5 @@
--- `reached_states` meets its contract. The loop's invariant: what is reached so far lies in every closed set, and is closed but for the states left.
+-- `reached_states` meets its contract. The loop's invariant: what is reached so far lies in every closed set, and is
+-- closed but for the states left.
 use Rattle.judge.proofs.Looked.{Looked, to_look}
 use Rattle.judge.proofs.reached.reached_states.Given as goal
 

@@ -16,7 +16,8 @@ use Rattle.label.proofs.Ways.{at_total}
 use Rattle.label.proofs.analysis.analyse.Goals as goal
 
 -- the analysis by its verdict
-by_verdict : (table list : List ℕ) (v w : Verdict) → v ≡ w → analysis_at w (sets_of (table_of table) list) ≡ analysis_at v (sets_of (table_of table) list)
+by_verdict : (table list : List ℕ) (v w : Verdict) → v ≡ w
+    → analysis_at w (sets_of (table_of table) list) ≡ analysis_at v (sets_of (table_of table) list)
 by_verdict table list v w e = sym (ap (λ (u : Verdict). analysis_at u (sets_of (table_of table) list)) e)
 
 -- the list's form, as it is tested with a number that is that of the steps
@@ -31,7 +32,8 @@ returns-in_err-check_list c =
     let l = c.args.list.now in
     let r = c.in_err-check_list.field-0.0 in
     let gives : c.from_residual.result ≡ Err r = search rules in
-    let form = form_is t.bytes.now l _ c.step_count.ensures _ (Err r) c.check_list.ensures.value c.in_err-check_list.was in
+    let form = form_is t.bytes.now l _ c.step_count.ensures _
+    (Err r) c.check_list.ensures.value c.in_err-check_list.was in
     let refused = form_refused (room_fits c.args.room (table_of t.bytes.now)) t.bytes.now l t.passes r form in
     gives ∙ by_verdict t.bytes.now l _ (Err r) refused
 
@@ -39,7 +41,8 @@ pub returns-then-not-room_fits : goal.returns-then-not-room_fits
 returns-then-not-room_fits c =
     let t = c.args.table.now in
     let l = c.args.list.now in
-    let form = form_is t.bytes.now l _ c.step_count.ensures _ (Ok tt) c.check_list.ensures.value c.in_ok-check_list.was in
+    let form = form_is t.bytes.now l _ c.step_count.ensures _
+    (Ok tt) c.check_list.ensures.value c.in_ok-check_list.was in
     let room = sym c.room_fits.ensures ∙ c.if-not-room_fits.true in
     by_verdict t.bytes.now l _ (Err ShortBuffer) (room_refused _ t.bytes.now l t.passes form room)
 
@@ -54,7 +57,8 @@ pub returns : goal.returns
 returns c =
     let t = c.args.table.now in
     let l = c.args.list.now in
-    let form = form_is t.bytes.now l _ c.step_count.ensures _ (Ok tt) c.check_list.ensures.value c.in_ok-check_list.was in
+    let form = form_is t.bytes.now l _ c.step_count.ensures _
+    (Ok tt) c.check_list.ensures.value c.in_ok-check_list.was in
     let room = sym c.room_fits.ensures ∙ c.if-not-room_fits.false in
     c.total_sets.ensures
     ∙ at_total (is_total (table_of t.bytes.now) l) (sets_of (table_of t.bytes.now) l)

@@ -10,8 +10,7 @@ use Rattle.sets.specs.Member.{member, count_of}
 use Rattle.sets.proofs.SetOf.{member-set_of-below, count_of_cong}
 use Rattle.table.specs.declared.refusal.Refusal.{Refusal}
 use Rattle.table.specs.Verdict.{Verdict}
-use Rattle.table.specs.Table.{Table, table_of}
-use Rattle.table.specs.Accept.{initial_at}
+use Rattle.table.specs.Table.{Table, table_of, initial_at}
 use Rattle.table.specs.Buffer.{on_accepted}
 use Rattle.table.proofs.Facts.{accepted}
 use Rattle.ctl.specs.Rule.{root_index}
@@ -31,17 +30,22 @@ use Rattle.label.proofs.holding.holding_states.Goals as goal
 
 module _ (table list out : List ℕ) (v : Verdict) (e : holding_verdict table list (length out) ≡ v) where
   -- the answer and what the buffer holds, by the verdict
-  answer_at : ◌≡◌ {A = Result ℕ Refusal} (holding_at v (length (held_states (table_of table) list))) (holding_answer table list (length out))
+  answer_at : ◌≡◌ {A = Result ℕ Refusal} (holding_at v (length (held_states (table_of table) list)))
+      (holding_answer table list (length out))
   answer_at = sym (ap (λ (w : Verdict). holding_at w (length (held_states (table_of table) list))) e)
 
-  buffer_at : on_accepted v (held_states (table_of table) list ++ drop (length (held_states (table_of table) list)) out) out ≡ holding_buffer table list out
-  buffer_at = sym (ap (λ (w : Verdict). on_accepted w (held_states (table_of table) list ++ drop (length (held_states (table_of table) list)) out) out) e)
+  buffer_at : on_accepted v (held_states (table_of table) list ++ drop (length (held_states (table_of table) list)) out)
+      out ≡ holding_buffer table list out
+  buffer_at =
+      sym (ap (λ (w : Verdict). on_accepted w
+      (held_states (table_of table) list ++ drop (length (held_states (table_of table) list)) out) out) e)
 
 module _ (T : Table) (list : List ℕ) (a : Analysis) (e : a ≡ sets_of T list) where
   states_are : states_with (reading_order (member a.initial)) (member a.root) ≡ held_states T list
   states_are =
       ap (λ (x : Analysis). states_with (reading_order (member x.initial)) (member x.root)) e
-      ∙ order_cong _ _ _ _ (member-set_of-below 32 (initial_at T)) (member-set_of-below 32 (marked T list (root_index T)))
+      ∙ order_cong _ _ _ _ (member-set_of-below 32 (initial_at T))
+      (member-set_of-below 32 (marked T list (root_index T)))
 
   count_is : count_of 32 (member a.root) ≡ length (held_states T list)
   count_is =
@@ -107,7 +111,8 @@ returns c =
     let way = way_passed (States (length out)) t l c.in_ok-a.a
     (sym c.in_ok-a.was ∙ analysis_moved (States (length out)) l _ t c.in_ok-table.ensures.0 _ c.analyse.ensures) in
     let told : ◌≡◌ {A = Result ℕ Refusal} (Ok c.count.result) (holding_answer t l (length out)) =
-    ap (λ (k : ℕ). Ok k) (c.count.ensures ∙ count_is (table_of t) l c.in_ok-a.a way.1) ∙ answer_at t l out (Ok tt) way.0 in
+    ap (λ (k : ℕ). Ok k) (c.count.ensures ∙ count_is (table_of t) l c.in_ok-a.a way.1)
+    ∙ answer_at t l out (Ok tt) way.0 in
     let left = c.write_states.ensures
     ∙ ap (λ (xs : List ℕ). xs ++ drop (length xs) out) (states_are (table_of t) l c.in_ok-a.a way.1)
     ∙ buffer_at t l out (Ok tt) way.0 in

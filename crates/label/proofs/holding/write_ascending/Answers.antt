@@ -15,7 +15,7 @@ use Rattle.sets.proofs.SetOf.{set_of-lt, count_of-le}
 use Rattle.sets.proofs.Walk.{lowest_below, left_first, left_fewer}
 use Rattle.table.specs.Buffer.{over}
 use Rattle.table.proofs.Buffer.{over_next, over-length, over-all}
-use Rattle.ctl.specs.Levels.{below}
+use Rattle.ctl.specs.Range.{below}
 use Rattle.label.specs.ReadingOrder.{states_with}
 use Rattle.label.proofs.Lowest.{lowest_first, no-states}
 use Rattle.label.proofs.Select.{select_count}
@@ -37,7 +37,8 @@ record Turn (vs : List ℕ) (i left : ℕ) : Type 0 where
 
 turn : (vs : List ℕ) (i left : ℕ) → i < length vs → ascending left ≡ drop i vs → left < 2 ^ 32 → Turn vs i left
 turn vs i left h e small =
-    let some : ¬ (left ≡ 0) = λ z. let none = ap length (sym e ∙ ap ascending z ∙ no-states) in omega (arith, none, length-drop i vs) in
+    let some : ¬ (left ≡ 0) = λ z. let none = ap length (sym e ∙ ap ascending z ∙ no-states) in
+    omega (arith, none, length-drop i vs) in
     let low = lowest_below left small some in
     let both = sym (lowest_first left low) ∙ e ∙ drop-cons vs i 0 h in
     record {
@@ -48,12 +49,25 @@ turn vs i left h e small =
 
 -- the iterator goes on: it has given no more than 32 states, and no more than 32 are left
 few : (set left i : ℕ) → i ≤ length (ascending set) → i + count_of 32 (member left) < 2 ^ 64
-few set left i h = omega (arith, counted set (count_of 32 (member set)) refl, count_of-le 32 (member set), count_of-le 32 (member left))
+few set left i h =
+    omega (
+      arith,
+      counted set (count_of 32 (member set)) refl,
+      count_of-le 32 (member set),
+      count_of-le 32 (member left),
+    )
 
 -- where a state is left, not all are written
-not_all : (set left s i : ℕ) → left < 2 ^ 32 → ¬ (left ≡ 0) → s ≡ lowest_of 32 (member left) → ascending left ≡ drop i (ascending set) → i < length (ascending set)
+not_all : (set left s i : ℕ) → left < 2 ^ 32 → ¬ (left ≡ 0) → s ≡ lowest_of 32 (member left)
+    → ascending left ≡ drop i (ascending set) → i < length (ascending set)
 not_all set left s i small some low e =
-    omega (arith, left_fewer left left s (left_first left small) some low, counted left (count_of 32 (member left)) refl, ap length e, length-drop i (ascending set))
+    omega (
+      arith,
+      left_fewer left left s (left_first left small) some low,
+      counted left (count_of 32 (member left)) refl,
+      ap length e,
+      length-drop i (ascending set),
+    )
 
 pub loop-i-init : goal.loop-i-init
 loop-i-init c =
@@ -65,7 +79,14 @@ loop-i-init c =
     let vs = ascending a.set in
     let inside : c.into_iter-i-iterator.result.count ≤ length vs = omega (arith, zero) in
     record {
-      goes_on = ((tt, tt, inl (few a.set c.into_iter-i-iterator.result.iter.left c.into_iter-i-iterator.result.count inside)), tt);
+      goes_on = (
+        (
+          tt,
+          tt,
+          inl (few a.set c.into_iter-i-iterator.result.iter.left c.into_iter-i-iterator.result.count inside),
+        ),
+        tt,
+      );
       inside = inside;
       written = ap (λ (k : ℕ). over k vs a.out.now) (sym zero);
       others = ap ascending all ∙ ap (λ (k : ℕ). drop k vs) (sym zero);
@@ -81,8 +102,15 @@ bounds-out-i c =
     let vs = ascending c.args.set in
     let next = c.in-Some.ensures.steps in
     let i = l.i-iterator.count in
-    let inside = not_all c.args.set l.i-iterator.iter.left c.in-Some.s i l.invariant.small next.0.1 next.0.2 l.invariant.others in
-    omega (arith, inside, next.1, ap length l.invariant.written, over-length i vs c.args.out.now (omega (arith, inside)) (omega (arith, inside, c.requires)))
+    let inside = not_all c.args.set l.i-iterator.iter.left c.in-Some.s i l.invariant.small next.0.1 next.0.2
+    l.invariant.others in
+    omega (
+      arith,
+      inside,
+      next.1,
+      ap length l.invariant.written,
+      over-length i vs c.args.out.now (omega (arith, inside)) (omega (arith, inside, c.requires)),
+    )
 
 pub loop-i-preserved : goal.loop-i-preserved
 loop-i-preserved c =
@@ -101,7 +129,10 @@ loop-i-preserved c =
     record {
       goes_on = ((tt, tt, inl (few a.set c.next.new.self.iter.left c.next.new.self.count further)), tt);
       inside = further;
-      written = (λ j. set (l.invariant.written j) (next.1 j) ((next.0.2 ∙ sym t.first) j)) ∙ over_next i vs a.out.now 0 inside (omega (arith, inside, c.requires)) ∙ ap (λ (k : ℕ). over k vs a.out.now) (sym more);
+      written =
+          (λ j. set (l.invariant.written j) (next.1 j) ((next.0.2 ∙ sym t.first) j))
+          ∙ over_next i vs a.out.now 0 inside (omega (arith, inside, c.requires))
+          ∙ ap (λ (k : ℕ). over k vs a.out.now) (sym more);
       others = ap ascending gone ∙ t.rest ∙ ap (λ (k : ℕ). drop k vs) (sym more);
       small = rw gone (set_of-lt 32 (λ k. member left k && not (eqb k (lowest_of 32 (member left)))));
     }

@@ -24,8 +24,11 @@ use Rattle.label.proofs.label.label_nodes.Goals as goal
 
 -- what the buffer holds by the verdict
 buffer_at : (table list out : List ℕ) (v : Verdict) → label_verdict table list (length out) ≡ v
-    → on_accepted v (over (length (table_of table).nodes) (label_words (table_of table) list) out) out ≡ label_buffer table list out
-buffer_at table list out v e = sym (ap (λ (w : Verdict). on_accepted w (over (length (table_of table).nodes) (label_words (table_of table) list) out) out) e)
+    → on_accepted v (over (length (table_of table).nodes) (label_words (table_of table) list) out) out
+    ≡ label_buffer table list out
+buffer_at table list out v e =
+    sym (ap (λ (w : Verdict). on_accepted w
+    (over (length (table_of table).nodes) (label_words (table_of table) list) out) out) e)
 
 pub returns-in_err-table : goal.returns-in_err-table
 returns-in_err-table c =
@@ -73,7 +76,8 @@ counted : (bytes table list : List ℕ) (room : ℕ) (a : Analysis) (x : Result 
     → x ≡ analysis_of (Nodes room) bytes list → bytes ≡ table
     → (k : ℕ) → k ≡ length (table_of bytes).nodes → (k ≡ length (table_of table).nodes) × (k ≤ 32) × (k ≤ room)
 counted bytes table list room a x was gives same k e =
-    let ok = (way_passed (Nodes room) table list a (sym was ∙ analysis_moved (Nodes room) list bytes table same x gives)).0 in
+    let ok = (way_passed (Nodes room) table list a
+    (sym was ∙ analysis_moved (Nodes room) list bytes table same x gives)).0 in
     let f : k ≡ length (table_of table).nodes = e ∙ ap (λ (b : List ℕ). length (table_of b).nodes) same in
     let fits = leb-true (length (table_of table).nodes) room (room_accepted _ table list ok) in
     (f, omega (arith, f, (accepted table (table_accepted _ table list ok)).table.few_nodes), omega (arith, f, fits))

@@ -7,5 +7,7 @@ use Rattle.label.proofs.pass.label_pass.Given as goal
 
 abbrev pub invariant-loop-i : goal.invariant-loop-i
 invariant-loop-i l =
-    pass_words l.k.rows l.k.kept l.k.states (states_part l.table.bytes.now) 0 (table_of l.table.bytes.now).nodes l.fn.words
-    ≡ pass_words l.k.rows l.k.kept l.k.states (states_part l.table.bytes.now) l.i (drop l.i (table_of l.table.bytes.now).nodes) l.next
+    pass_words l.k.rows l.k.kept l.k.states (states_part l.table.bytes.now) 0
+    (table_of l.table.bytes.now).nodes l.fn.words
+    ≡ pass_words l.k.rows l.k.kept l.k.states (states_part l.table.bytes.now) l.i
+    (drop l.i (table_of l.table.bytes.now).nodes) l.next

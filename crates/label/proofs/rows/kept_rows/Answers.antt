@@ -50,14 +50,18 @@ loop-j-preserved c =
     let rows = c.loop-j.rows in
     let before = kept_steps (take j xs) (take j l) in
     let inside : j < length l = omega arith in
-    let more : kept_steps (take (j + 1) xs) (take (j + 1) l) ≡ before ++ if_kept (get_or l j 0) (step_at (table_of t.bytes.now) j) =
+    let more : kept_steps (take (j + 1) xs) (take (j + 1) l)
+    ≡ before ++ if_kept (get_or l j 0) (step_at (table_of t.bytes.now) j) =
     ap (λ (k : ℕ). kept_steps (take k xs) (take k l)) (add-one j) ∙ kept_more xs l j zero_step c.requires inside in
     let row_of : Rows c.if-bit-eq1.rows (before ++ if_kept (get_or l j 0) (step_at (table_of t.bytes.now) j)) =
-    elim c.if-bit-eq1.branch as (λ _. Rows c.if-bit-eq1.rows (before ++ if_kept (get_or l j 0) (step_at (table_of t.bytes.now) j))) [
-      | then-bit-eq1 w ↦ with_kept rows c.if-bit-eq1.rows before c.loop-j.invariant t.bytes.now j (get_or l j 0) w.insert.result w.step-x.result
+    elim c.if-bit-eq1.branch as (λ _. Rows c.if-bit-eq1.rows
+    (before ++ if_kept (get_or l j 0) (step_at (table_of t.bytes.now) j))) [
+      | then-bit-eq1 w ↦ with_kept rows c.if-bit-eq1.rows before c.loop-j.invariant t.bytes.now j
+          (get_or l j 0) w.insert.result w.step-x.result
           (step_ends t.bytes.now t.passes j (omega arith) w.step-x.result w.step-x.ensures)
           w.if-bit-eq1.true w.insert.ensures w.rows-is
-      | else-bit-eq1 w ↦ with_struck rows c.if-bit-eq1.rows before c.loop-j.invariant (get_or l j 0) (step_at (table_of t.bytes.now) j) w.if-bit-eq1.false w.rows-is
+      | else-bit-eq1 w ↦ with_struck rows c.if-bit-eq1.rows before c.loop-j.invariant (get_or l j 0)
+          (step_at (table_of t.bytes.now) j) w.if-bit-eq1.false w.rows-is
     ]
     in
     rw more row_of

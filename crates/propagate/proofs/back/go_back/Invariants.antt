@@ -1,5 +1,5 @@
--- `go_back` meets its contract: after the states below s, the rows, the row of the ends and the report are those of `back_rows`, `back_row` and
--- `back_report` at s, and what was added is marked.
+-- `go_back` meets its contract: after the states below s, the rows, the row of the ends and the report are those of
+-- `back_rows`, `back_row` and `back_report` at s, and what was added is marked.
 use mathlib.Core.Path.{◌≡◌}
 use mathlib.Core.Bool.{false}
 use Rattle.propagate.specs.Back.{back_rows, back_row, back_report}

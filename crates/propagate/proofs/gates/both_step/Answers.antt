@@ -3,9 +3,11 @@ use Rattle.propagate.proofs.MarkedLaws.{calm_then, rows_then}
 use Rattle.propagate.proofs.gates.both_step.Goals as goal
 
 pub returns-clause-marked : goal.returns-clause-marked
-returns-clause-marked c = rows_then (rows_then c.add_node-first.ensures.marked c.add_node.ensures.marked) c.add_node-2.ensures.marked
+returns-clause-marked c =
+    rows_then (rows_then c.add_node-first.ensures.marked c.add_node.ensures.marked) c.add_node-2.ensures.marked
 
 pub returns-clause-calm : goal.returns-clause-calm
 returns-clause-calm c =
     calm_then c.both-second.result c.add_node-2.result c.both.result c.both.ensures
-    (calm_then c.add_node-first.result c.add_node.result c.both-second.result c.both-second.ensures c.add_node-first.ensures.calm c.add_node.ensures.calm) c.add_node-2.ensures.calm
+    (calm_then c.add_node-first.result c.add_node.result c.both-second.result c.both-second.ensures
+    c.add_node-first.ensures.calm c.add_node.ensures.calm) c.add_node-2.ensures.calm

@@ -16,4 +16,6 @@ returns-clause-marked c = rows_same c.add_to.ensures.raised
 pub returns-clause-levels : goal.returns-clause-levels
 returns-clause-levels c =
     let a = c.args in
-    level_added {r = a.graph.now.readers} {n = a.graph.now.states} {x = a.x} c.requires.fits.levels_below c.add_to.ensures.raised (a.m - 1) (omega (arith, c.if-m-eq0.false, c.if-m-graph.false, c.requires.m_le_n)) a.r c.add_to.ensures.words_after c.add_to.ensures.marked
+    level_added {r = a.graph.now.readers} {n = a.graph.now.states} {x = a.x} c.requires.fits.levels_below
+    c.add_to.ensures.raised (a.m - 1) (omega (arith, c.if-m-eq0.false, c.if-m-graph.false, c.requires.m_le_n)) a.r
+    c.add_to.ensures.words_after c.add_to.ensures.marked

@@ -6,4 +6,5 @@ pub returns-clause-marked : goal.returns-clause-marked
 returns-clause-marked c = rows_then c.go_back-k.ensures.marked c.add_level.ensures.marked
 
 pub returns-clause-calm : goal.returns-clause-calm
-returns-clause-calm c = calm_then c.go_back-k.result.report c.add_level.result c.both.result c.both.ensures c.go_back-k.ensures.calm c.add_level.ensures.calm
+returns-clause-calm c = calm_then c.go_back-k.result.report c.add_level.result c.both.result c.both.ensures
+    c.go_back-k.ensures.calm c.add_level.ensures.calm

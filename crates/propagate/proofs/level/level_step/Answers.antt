@@ -1,4 +1,5 @@
--- `level_step` meets its contract: the join of the level is added, then what it says is taken back to the steps and the level below.
+-- `level_step` meets its contract: the join of the level is added, then what it says is taken back to the steps and
+-- the level below.
 use mathlib.Core.Path.{◌≡◌, ap, ◌∙◌}
 use Rattle.rows.specs.declared.row.Row.{Row}
 use Rattle.rows.specs.declared.joined.Joined.{Joined}
@@ -20,10 +21,14 @@ returns-clause-value c =
     let T = a.graph.now.targets in
     let joins : j.result ≡ joined_at T a.graph.now.states a.x a.m a.look (level_at a.graph.now.states a.x a.m M) M =
     j.ensures ∙ ap (λ (r : Row). joined_at T a.graph.now.states a.x a.m a.look r M) l.ensures in
-    after {S = add_joined T a.graph.now.states a.x a.m (joined_at T a.graph.now.states a.x a.m a.look (level_at a.graph.now.states a.x a.m M) M) M}
-    (go_back_more T a.graph.now.states a.x.every (joined_at T a.graph.now.states a.x a.m a.look (level_at a.graph.now.states a.x a.m M) M).more (level_at a.graph.now.states a.x a.m M) (add_level a.graph.now.states a.x a.m))
+    after {S = add_joined T a.graph.now.states a.x a.m
+    (joined_at T a.graph.now.states a.x a.m a.look (level_at a.graph.now.states a.x a.m M) M) M}
+    (go_back_more T a.graph.now.states a.x.every
+    (joined_at T a.graph.now.states a.x a.m a.look (level_at a.graph.now.states a.x a.m M) M).more
+    (level_at a.graph.now.states a.x a.m M) (add_level a.graph.now.states a.x a.m))
     (d.ensures.value ∙ ap (λ (r : Joined). add_joined T a.graph.now.states a.x a.m r M) joins)
-    (k.ensures.value ∙ (λ i. go_back_more T a.graph.now.states a.x.every (joins i).more (l.ensures i) (add_level a.graph.now.states a.x a.m) (memory d.new.rows d.new.words)))
+    (k.ensures.value ∙ (λ i. go_back_more T a.graph.now.states a.x.every (joins i).more (l.ensures i)
+    (add_level a.graph.now.states a.x a.m) (memory d.new.rows d.new.words)))
     c.both.ensures
 
 pub returns-clause-marked : goal.returns-clause-marked
@@ -33,4 +38,5 @@ pub returns-clause-levels : goal.returns-clause-levels
 returns-clause-levels c = levels_then c.add_joined-first.ensures.levels c.level_back.ensures.levels
 
 pub returns-clause-calm : goal.returns-clause-calm
-returns-clause-calm c = calm_then c.add_joined-first.result c.level_back.result c.both.result c.both.ensures c.add_joined-first.ensures.calm c.level_back.ensures.calm
+returns-clause-calm c = calm_then c.add_joined-first.result c.level_back.result c.both.result c.both.ensures
+    c.add_joined-first.ensures.calm c.level_back.ensures.calm

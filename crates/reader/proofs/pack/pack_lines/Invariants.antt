@@ -8,5 +8,6 @@ use Rattle.reader.proofs.pack.pack_lines.Given as goal
 abbrev pub invariant-loop-j : goal.invariant-loop-j
 invariant-loop-j g l =
     let p = g.R.Line.parser in
-    let f = g.R.Packed.packed in
-    lines_stored p f l.packed (record_width * l.j) (l.count - l.j) l.rest ≡ lines_stored p f l.initial.packed 0 l.count l.text
+    let f = g.R.PackedRecord.packed in
+    lines_stored p f l.packed (record_width * l.j) (l.count - l.j) l.rest
+    ≡ lines_stored p f l.initial.packed 0 l.count l.text

@@ -1,4 +1,5 @@
--- `read` meets its contract: what was read into its own bytes is refused in any room, and an accepted table only where it has none.
+-- `read` meets its contract: what was read into its own bytes is refused in any room, and an accepted table only
+-- where it has none.
 use mathlib.Core.Path.{◌≡◌, refl, sym, ap, subst, ◌∙◌}
 use mathlib.Core.Logic.{◌↔◌}
 use mathlib.Core.List.{List, [], ◌++◌}
@@ -8,7 +9,7 @@ use Rattle.std.proofs.Common.{rules, Err}
 use Rattle.std.specs.Prelude.{Result, IsOk}
 use Rattle.table.specs.declared.refusal.Refusal.{Refusal}
 use Rattle.reader.specs.Exact.{Readable, ReadIsExact}
-use Rattle.reader.proofs.Outcome.{answered}
+use Rattle.reader.proofs.ReadGives.{answered}
 use Rattle.reader.proofs.Found.{any_room, no_room, room_refused, has_room, exact, accepted_just}
 use Rattle.reader.proofs.reader.read.Goals as goal
 

@@ -2,7 +2,7 @@
 use Prim.Native.Nat.{ℕ, ◌≤◌}
 use mathlib.Core.Path.{◌≡◌, sym, ap, ◌∙◌}
 use mathlib.Core.List.{List}
-use mathlib.Core.Option.{some}
+use Rattle.std.specs.Prelude.{Some}
 use native.Mathlib.Omega.{arith}
 use lib.ListN.{length, take, replicate, length-replicate}
 use lib.Seq.{sets}
@@ -11,9 +11,9 @@ use Rattle.sheet.specs.Form.{Sheet, InRange}
 use Rattle.sheet.specs.Parse.{parse}
 use Rattle.reader.specs.Read.{pack}
 use Rattle.sheet.proofs.Whole.{parse_exact}
-use Rattle.reader.proofs.Packed.{pack-length}
+use Rattle.reader.proofs.PackedSheet.{pack-length}
 use Rattle.reader.proofs.Stores.{sets_front}
-use Rattle.reader.proofs.Outcome.{not_of_form, table_refused, too_long}
+use Rattle.reader.proofs.ReadGives.{not_of_form, table_refused, too_long}
 use Rattle.reader.proofs.Found.{text_refused, tested_into, into_refused, into_packed}
 use Rattle.reader.proofs.reader.read_into.Goals as goal
 
@@ -21,7 +21,7 @@ use Rattle.reader.proofs.reader.read_into.Goals as goal
 abbrev zeros : List ℕ
 zeros = replicate 580 0
 
-module _ (text : List ℕ) {v : Sheet} (e : some v ≡ parse text) where
+module _ (text : List ℕ) {v : Sheet} (e : Some v ≡ parse text) where
   in_range : InRange v
   in_range = ((parse_exact text v).0 (sym e)).0
 

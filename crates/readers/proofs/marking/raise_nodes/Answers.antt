@@ -28,7 +28,9 @@ loop-i-preserved c =
     }
 
 pub returns-clause-added : goal.returns-clause-added
-returns-clause-added c = λ i k s m. gone_last _ c.loop-i.i-iterator.left _ c.ranges.nodes.fits c.in-None.ensures.steps.0 c.loop-i.invariant.all i m k s
+returns-clause-added c = λ i k s m. gone_last _ c.loop-i.i-iterator.left _ c.ranges.nodes.fits
+    c.in-None.ensures.steps.0 c.loop-i.invariant.all i m k s
 
 pub returns-clause-first : goal.returns-clause-first
-returns-clause-first c = λ i s m. gone_last _ c.loop-i.i-iterator.left _ c.ranges.nodes.fits c.in-None.ensures.steps.0 c.loop-i.invariant.first i m s
+returns-clause-first c = λ i s m. gone_last _ c.loop-i.i-iterator.left _ c.ranges.nodes.fits c.in-None.ensures.steps.0
+    c.loop-i.invariant.first i m s

@@ -17,7 +17,8 @@ abbrev pub AllHave : Readers → List ℕ → ℕ → ℕ → Type 0
 AllHave r looks set i = (k s : ℕ) → OfNode r i k → member set s ≡ true → member (get_or looks k 0) s ≡ true
 
 abbrev pub FirstHas : Readers → List ℕ → ℕ → ℕ → Type 0
-FirstHas r looks more i = (s : ℕ) → OfNode r i (get_or r.first i 0) → member more s ≡ true → member (get_or looks (get_or r.first i 0) 0) s ≡ true
+FirstHas r looks more i = (s : ℕ) → OfNode r i (get_or r.first i 0) → member more s ≡ true
+    → member (get_or looks (get_or r.first i 0) 0) s ≡ true
 
 abbrev pub invariant-loop-i : goal.invariant-loop-i
 invariant-loop-i l = record {

@@ -29,4 +29,5 @@ loop-t-preserved c =
     )
 
 pub returns-clause-behind : goal.returns-clause-behind
-returns-clause-behind c = λ t s m. gone_last _ c.loop-t.t-iterator.left _ c.ranges.set.fits c.in-None.ensures.steps.0 c.loop-t.invariant.2 t m s
+returns-clause-behind c = λ t s m. gone_last _ c.loop-t.t-iterator.left _ c.ranges.set.fits c.in-None.ensures.steps.0
+    c.loop-t.invariant.2 t m s

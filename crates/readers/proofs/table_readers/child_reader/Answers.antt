@@ -17,12 +17,15 @@ use Rattle.readers.proofs.table_readers.child_reader.Goals as goal
 
 -- ---- which children it has
 
-one_child : (o : Operator) (a : ℕ) → (o ≡ negation a) ⊎ ((q : Quantifier) × (o ≡ next q a)) → (c : ℕ) → is_child o c ≡ eqb a c
+one_child : (o : Operator) (a : ℕ) → (o ≡ negation a) ⊎ ((q : Quantifier) × (o ≡ next q a)) → (c : ℕ)
+    → is_child o c ≡ eqb a c
 one_child o a is c = ⊎_elim (λ e. ap (λ p. is_child p c) e) (λ e. ap (λ p. is_child p c) e.1) is
 
-two_children : (o : Operator) (a b : ℕ) → (o ≡ conjunction a b) ⊎ ((o ≡ disjunction a b) ⊎ ((f : Family) × (q : Quantifier) × (o ≡ fixpoint f q a b)))
+two_children : (o : Operator) (a b : ℕ)
+    → (o ≡ conjunction a b) ⊎ ((o ≡ disjunction a b) ⊎ ((f : Family) × (q : Quantifier) × (o ≡ fixpoint f q a b)))
     → (c : ℕ) → is_child o c ≡ eqb a c || eqb b c
-two_children o a b is c = ⊎_elim (λ e. ap (λ p. is_child p c) e) (⊎_elim (λ e. ap (λ p. is_child p c) e) (λ e. ap (λ p. is_child p c) e.2)) is
+two_children o a b is c =
+    ⊎_elim (λ e. ap (λ p. is_child p c) e) (⊎_elim (λ e. ap (λ p. is_child p c) e) (λ e. ap (λ p. is_child p c) e.2)) is
 
 module _ (o : Operator) (low : (c : ℕ) → is_child o c ≡ true → c < 32) where
   low_one : (a : ℕ) → ((c : ℕ) → is_child o c ≡ eqb a c) → a < 32
@@ -43,7 +46,8 @@ pub overflow_add-a-in-Negation : goal.overflow_add-a-in-Negation
 overflow_add-a-in-Negation c = omega (arith, low_one _ c.requires.children_below _ (one_child _ _ c.in-Negation.is))
 
 pub put-requires-in-Negation : goal.put-requires-in-Negation
-put-requires-in-Negation c = omega (arith, c.told-readers, low_one _ c.requires.children_below _ (one_child _ _ c.in-Negation.is))
+put-requires-in-Negation c =
+    omega (arith, c.told-readers, low_one _ c.requires.children_below _ (one_child _ _ c.in-Negation.is))
 
 pub returns-in-Negation-clause-of_node : goal.returns-in-Negation-clause-of_node
 returns-in-Negation-clause-of_node c = λ k e.
@@ -57,13 +61,19 @@ pub overflow_add-a : goal.overflow_add-a
 overflow_add-a c = omega (arith, low_first _ c.requires.children_below _ _ (two_children _ _ _ c.in-Conjunction.is))
 
 pub put-requires : goal.put-requires
-put-requires c = omega (arith, c.told-readers, low_first _ c.requires.children_below _ _ (two_children _ _ _ c.in-Conjunction.is))
+put-requires c =
+    omega (arith, c.told-readers, low_first _ c.requires.children_below _ _ (two_children _ _ _ c.in-Conjunction.is))
 
 pub overflow_add-b : goal.overflow_add-b
 overflow_add-b c = omega (arith, low_second _ c.requires.children_below _ _ (two_children _ _ _ c.in-Conjunction.is))
 
 pub put-requires-in-Conjunction : goal.put-requires-in-Conjunction
-put-requires-in-Conjunction c = omega (arith, c.told-readers, c.put.ensures.raised.same_length, low_second _ c.requires.children_below _ _ (two_children _ _ _ c.in-Conjunction.is))
+put-requires-in-Conjunction c = omega (
+  arith,
+  c.told-readers,
+  c.put.ensures.raised.same_length,
+  low_second _ c.requires.children_below _ _ (two_children _ _ _ c.in-Conjunction.is),
+)
 
 pub returns-in-Conjunction-clause-of_node : goal.returns-in-Conjunction-clause-of_node
 returns-in-Conjunction-clause-of_node c = λ k e.
@@ -74,6 +84,8 @@ returns-in-Conjunction-clause-of_node c = λ k e.
     let i = c.args.i in
     let own = itself i c.insert-one.result c.requires.i_below c.insert-one.ensures in
     ⊎_elim
-    (λ q. subst (λ (j : ℕ). member (get_or second.new.words (32 + j) 0) i ≡ true) (eqb-true a k q) (second.ensures.raised.stays (32 + a) i (first.added i own)))
-    (λ q. subst (λ (j : ℕ). member (get_or second.new.words (32 + j) 0) i ≡ true) (eqb-true b k q) (second.ensures.added i own))
+    (λ q. subst (λ (j : ℕ). member (get_or second.new.words (32 + j) 0) i ≡ true) (eqb-true a k q)
+    (second.ensures.raised.stays (32 + a) i (first.added i own)))
+    (λ q. subst (λ (j : ℕ). member (get_or second.new.words (32 + j) 0) i ≡ true) (eqb-true b k q)
+    (second.ensures.added i own))
     (or_parts (eqb a k) (eqb b k) (sym (two_children _ a b c.in-Conjunction.is k) ∙ e))

@@ -20,4 +20,5 @@ loop-t-preserved c =
     )
 
 pub returns-clause-added : goal.returns-clause-added
-returns-clause-added c = λ i s m. gone_last _ c.loop-t.t-iterator.left _ c.ranges.states.fits c.in-None.ensures.steps.0 c.loop-t.invariant.2 i m s
+returns-clause-added c = λ i s m. gone_last _ c.loop-t.t-iterator.left _ c.ranges.states.fits c.in-None.ensures.steps.0
+    c.loop-t.invariant.2 i m s

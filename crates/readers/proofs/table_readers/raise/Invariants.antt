@@ -5,4 +5,5 @@ use Rattle.readers.proofs.MarkLaws.{Has, Gone}
 use Rattle.readers.proofs.table_readers.raise.Given as goal
 
 abbrev pub invariant-loop-t : goal.invariant-loop-t
-invariant-loop-t l = Left l.states l.t-iterator.left × Raised l.initial.readers l.readers × Gone l.states l.t-iterator.left (Has l.readers l.set)
+invariant-loop-t l = Left l.states l.t-iterator.left × Raised l.initial.readers l.readers
+    × Gone l.states l.t-iterator.left (Has l.readers l.set)

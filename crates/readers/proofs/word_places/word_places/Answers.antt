@@ -16,7 +16,8 @@ use Rattle.readers.proofs.word_places.word_places.Goals.{then-i-f, else-i-f}
 use Rattle.readers.proofs.word_places.word_places.Goals as goal
 
 -- what `row_count` gives for the node that is read is the count of node i
-count : (T : Table) (i rows n : ℕ) (x : Node) (o : Operator) → rows ≡ row_count n o → n ≡ length T.states → o ≡ operator_of x → x ≡ node_at T i
+count : (T : Table) (i rows n : ℕ) (x : Node) (o : Operator) → rows ≡ row_count n o → n ≡ length T.states
+    → o ≡ operator_of x → x ≡ node_at T i
     → rows ≡ row_count (length T.states) (operator_of (node_at T i))
 count T i rows n x o given states read here = given ∙ (λ j. row_count (states j) ((read ∙ ap operator_of here) j))
 
@@ -25,7 +26,8 @@ record Next (T : Table) (i total : ℕ) : Type 0 where
   place : total ≡ first_word T (suc i)
   small : total ≤ 1 + 32 * suc i
 
-one_more : (T : Table) (i total rows : ℕ) → length T.states ≤ 32 → i < length T.nodes → rows ≡ row_count (length T.states) (operator_of (node_at T i))
+one_more : (T : Table) (i total rows : ℕ) → length T.states ≤ 32 → i < length T.nodes
+    → rows ≡ row_count (length T.states) (operator_of (node_at T i))
     → total ≡ first_word T i → total ≤ 1 + 32 * i → Next T i (total + rows)
 one_more T i total rows few h own base small = record {
   place = omega (arith, own, base, first_next T i h);
@@ -40,7 +42,12 @@ no_more T i total h base small = record {
 
 pub loop-i-init : goal.loop-i-init
 unfolding row_counts
-loop-i-init c = record { few = omega arith; size = refl; total = refl; at = λ k h. let e : k ≡ 0 = omega (arith, h) in rw e refl }
+loop-i-init c = record {
+  few = omega arith;
+  size = refl;
+  total = refl;
+  at = λ k h. let e : k ≡ 0 = omega (arith, h) in rw e refl;
+}
 
 pub row_count-total-requires : goal.row_count-total-requires
 row_count-total-requires c =
@@ -52,7 +59,8 @@ overflow_add-total c =
     let t = c.args.table.now in
     let l = c.loop-i in
     let T = table_of t.bytes.now in
-    let own = count T l.i c.row_count-total.result _ _ _ c.row_count-total.ensures c.state_count-n.ensures c.from.ensures c.node.ensures in
+    let own = count T l.i c.row_count-total.result _ _ _ c.row_count-total.ensures c.state_count-n.ensures
+    c.from.ensures c.node.ensures in
     let next = one_more T l.i l.total c.row_count-total.result (accepted t.bytes.now t.passes).table.few_states
     (omega (arith, c.if-i-f.true, c.node_count-f.ensures)) own l.invariant.total l.invariant.few in
     omega (arith, next.small, c.loop-i-test.true)
@@ -67,15 +75,20 @@ loop-i-preserved c =
     let total = c.if-i-f.total in
     let next : Next T i total = elim c.if-i-f.branch [
       | then-i-f w ↦
-          let own = count T i w.row_count-total.result _ _ _ w.row_count-total.ensures c.state_count-n.ensures w.from.ensures w.node.ensures in
+          let own = count T i w.row_count-total.result _ _ _ w.row_count-total.ensures c.state_count-n.ensures
+          w.from.ensures w.node.ensures in
           subst (Next T i) (sym w.total-is)
-          (one_more T i l.total w.row_count-total.result few (omega (arith, w.if-i-f.true, c.node_count-f.ensures)) own l.invariant.total l.invariant.few)
+          (one_more T i l.total w.row_count-total.result few (omega (arith, w.if-i-f.true, c.node_count-f.ensures)) own
+          l.invariant.total l.invariant.few)
       | else-i-f w ↦
-          subst (Next T i) (sym w.total-is) (no_more T i l.total (omega (arith, w.if-i-f.false, c.node_count-f.ensures)) l.invariant.total l.invariant.few)
+          subst (Next T i) (sym w.total-is)
+          (no_more T i l.total (omega (arith, w.if-i-f.false, c.node_count-f.ensures)) l.invariant.total
+          l.invariant.few)
     ] in
     let inside : i + 1 < length l.first = omega (arith, l.invariant.size, c.loop-i-test.true) in
     let first = set l.first (i + 1) total in
-    let here : get_or first (i + 1) 0 ≡ first_word T (i + 1) = get_or-set_same l.first (i + 1) total 0 inside ∙ rw (add-one i) next.place in
+    let here : get_or first (i + 1) 0 ≡ first_word T (i + 1) =
+    get_or-set_same l.first (i + 1) total 0 inside ∙ rw (add-one i) next.place in
     let before : (k : ℕ) → k < i + 1 → get_or first k 0 ≡ first_word T k =
     λ k h. get_or-set_other l.first (i + 1) k total 0 (λ e. omega arith) ∙ l.invariant.at k (omega (arith, h)) in
     record {

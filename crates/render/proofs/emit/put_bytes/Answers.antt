@@ -15,4 +15,8 @@ returns c =
     let new = c.copy_from_slice.new.self in
     let same : new ≡ b = c.copy_from_slice.ensures.after in
     let width = at + length b - at in
-    record { place = refl; text = part_stored new t at width (omega (arith, ap length same)) (omega (arith, c.requires)) ∙ ap (sets t at) same }
+    record {
+      place = refl;
+      text = part_stored new t at width (omega (arith, ap length same)) (omega (arith, c.requires))
+          ∙ ap (sets t at) same;
+    }

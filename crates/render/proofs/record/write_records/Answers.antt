@@ -12,8 +12,9 @@ write-place-requires g c =
     let a = c.args in
     let v = c.loop-i in
     let x = c.record_at-record in
-    let W = g.R.Written in
-    let l = line_next W.line W.record_of record_width a.count a.section.now a.text.now a.at v.i v.text v.place v.invariant c.loop-i-test.true x.result (g.met.R.Written.from_bytes _ x.result x.ensures) in
+    let W = g.R.RenderedLine in
+    let l = line_next W.line W.record_of record_width a.count a.section.now a.text.now a.at v.i v.text v.place
+    v.invariant c.loop-i-test.true x.result (g.met.R.RenderedLine.from_bytes _ x.result x.ensures) in
     left_room _ _ _ _ _ (W.line x.result) _ l c.requires
 
 pub loop-i-preserved : goal.loop-i-preserved
@@ -21,13 +22,15 @@ loop-i-preserved g c =
     let a = c.args in
     let v = c.loop-i in
     let x = c.record_at-record in
-    let W = g.R.Written in
-    let l = line_next W.line W.record_of record_width a.count a.section.now a.text.now a.at v.i v.text v.place v.invariant c.loop-i-test.true x.result (g.met.R.Written.from_bytes _ x.result x.ensures) in
+    let W = g.R.RenderedLine in
+    let l = line_next W.line W.record_of record_width a.count a.section.now a.text.now a.at v.i v.text v.place
+    v.invariant c.loop-i-test.true x.result (g.met.R.RenderedLine.from_bytes _ x.result x.ensures) in
     left_next _ _ _ _ _ _ _ l _ _ c.write-place.ensures
 
 pub returns : goal.returns
 returns g c =
     let a = c.args in
     let v = c.loop-i in
-    let W = g.R.Written in
-    lines_done W.line W.record_of record_width a.count a.section.now a.text.now a.at v.i v.text v.place v.invariant c.loop-i-test.false
+    let W = g.R.RenderedLine in
+    lines_done W.line W.record_of record_width a.count a.section.now a.text.now a.at v.i v.text v.place v.invariant
+    c.loop-i-test.false

@@ -1,4 +1,5 @@
--- `render_table` meets its contract: each way out has decided the tests up to its own, and the lent buffer is written on the last alone.
+-- `render_table` meets its contract: each way out has decided the tests up to its own, and the lent buffer is written
+-- on the last alone.
 use Rattle.std.proofs.Common.{Fits, w8, rules, Ok, Err}
 use Prim.Native.Nat.{ℕ, ◌≤◌, ◌<◌}
 use mathlib.Core.Path.{◌≡◌, refl, sym, ap, ap₂, subst, ◌∙◌}
@@ -10,16 +11,17 @@ use Rattle.table.specs.Table.{counts_of}
 use Rattle.table.specs.Facts.{IsTable}
 use Rattle.table.proofs.Refused.{is_table}
 use Rattle.std.specs.Prelude.{IfOk, IfErr}
-use Rattle.reader.specs.Read.{Answer}
+use Rattle.reader.specs.Read.{ReadResult}
 use Rattle.render.specs.Exact.{RenderIsExact, RenderRefused}
 use Rattle.table.proofs.Facts.{header_accepted, counts_within}
 use Rattle.sheet.specs.Form.{render}
 use Rattle.reader.proofs.Stores.{sets_front}
-use Rattle.render.specs.Render.{sheet_of, Stored}
+use Rattle.render.specs.Stored.{Stored}
+use Rattle.render.specs.Render.{sheet_of}
 use Rattle.render.proofs.Left.{stored_as}
 use Rattle.render.proofs.Ranges.{sheet_range}
 use Rattle.render.proofs.Bounds.{sheet-length}
-use Rattle.render.proofs.RenderOutcome.{not_accepted, no_table, no_room, all-written, exact}
+use Rattle.render.proofs.RenderGives.{not_accepted, no_table, no_room, all-written, exact}
 use Rattle.render.proofs.writer.render_table.Goals as goal
 
 -- the writer's own bytes at first
@@ -40,7 +42,15 @@ module _ (l : List ℕ) (bytes : (i : ℕ) → Fits w8 (get_or l i 0)) (is : IsT
     len = let p = s.place in omega arith
 
     within : n ≤ length text
-    within = omega (arith, len, short, ap length s.text, length-sets zeros 0 (render (sheet_of l)), length-replicate {A = ℕ} 2318 0)
+    within =
+        omega (
+          arith,
+          len,
+          short,
+          ap length s.text,
+          length-sets zeros 0 (render (sheet_of l)),
+          length-replicate {A = ℕ} 2318 0,
+        )
 
     stored : take n text ≡ render (sheet_of l)
     stored =
@@ -50,7 +60,8 @@ module _ (l : List ℕ) (bytes : (i : ℕ) → Fits w8 (get_or l i 0)) (is : IsT
         ∙ sets_front (render (sheet_of l)) zeros few
 
 -- the sheet of the table m, which is l, was stored
-stored_of : {m l : List ℕ} → m ≡ l → {text : List ℕ} {n : ℕ} → Stored zeros 0 (render (sheet_of m)) text n → Stored zeros 0 (render (sheet_of l)) text n
+stored_of : {m l : List ℕ} → m ≡ l → {text : List ℕ} {n : ℕ} → Stored zeros 0 (render (sheet_of m)) text n
+    → Stored zeros 0 (render (sheet_of l)) text n
 stored_of e s = stored_as _ _ _ _ _ _ (ap (λ (k : List ℕ). render (sheet_of k)) e) s
 
 pub returns-in_err-accepted : goal.returns-in_err-accepted
@@ -61,10 +72,10 @@ returns-in_err-accepted c =
     let o = not_accepted a.table.now a.out.now r f.0 in
     let e : c.from_residual.result ≡ Err r = search rules in
     let why : IfErr c.from_residual.result (RenderRefused a.table.now (length a.out.now)) =
-    subst (λ (x : Answer). IfErr x (RenderRefused a.table.now (length a.out.now))) (sym e)
+    subst (λ (x : ReadResult). IfErr x (RenderRefused a.table.now (length a.out.now))) (sym e)
     (no_table a.table.now (length a.out.now) r f.1) in
     let no_text : IfOk c.from_residual.result (λ k. RenderIsExact a.table.now k a.out.now a.out.now) =
-    subst (λ (x : Answer). IfOk x (λ k. RenderIsExact a.table.now k a.out.now a.out.now)) (sym e) tt in
+    subst (λ (x : ReadResult). IfOk x (λ k. RenderIsExact a.table.now k a.out.now a.out.now)) (sym e) tt in
     record { value = e ∙ o.0; out_after = o.1; refused = why; written = no_text; untouched = search rules }
 
 pub write_sheet-length-requires : goal.write_sheet-length-requires

@@ -22,4 +22,6 @@ write_block-requires c = omega (arith, accepted-length c.args.table.now)
 pub returns : goal.returns
 returns c =
     stored_as _ _ _ _ _ _ (accepted_parts c.args.table.now)
-    (stored_then c.put_bytes-line.ensures (stored_then c.write_values-second.ensures (stored_then c.write_block-third.ensures (stored_then c.write_block-fourth.ensures c.write_block.ensures))))
+    (stored_then c.put_bytes-line.ensures
+    (stored_then c.write_values-second.ensures
+    (stored_then c.write_block-third.ensures (stored_then c.write_block-fourth.ensures c.write_block.ensures))))

@@ -21,10 +21,12 @@ loop-j-preserved c =
     let inside : l.j < length T.steps = omega (arith, c.requires) in
     elim c.if-byte-eq1.branch as (λ _. RoundBefore T list c.args.set (l.j + 1) c.if-byte-eq1.next) [
       | then-byte-eq1 w ↦
-          rw w.next-is (round_with T list c.args.set l.j l.next l.invariant inside w.if-byte-eq1.true (omega (arith, wf.to_state l.j inside, wf.few_states)) w.insert_if-next.result
+          rw w.next-is (round_with T list c.args.set l.j l.next l.invariant inside w.if-byte-eq1.true
+          (omega (arith, wf.to_state l.j inside, wf.few_states)) w.insert_if-next.result
           (rw (w.contains.ensures, w.step-x.ensures) at w.insert_if-next.ensures))
       | else-byte-eq1 w ↦ rw w.next-is (round-without T list c.args.set l.j l.next l.invariant w.if-byte-eq1.false)
     ]
 
 pub returns : goal.returns
-returns c = round-all (table_of c.args.table.now.bytes.now) c.args.list.now c.args.set c.loop-j.j c.loop-j.next c.loop-j.invariant (omega (arith, c.requires))
+returns c = round-all (table_of c.args.table.now.bytes.now) c.args.list.now c.args.set c.loop-j.j c.loop-j.next
+    c.loop-j.invariant (omega (arith, c.requires))

@@ -26,9 +26,12 @@ loop-j-preserved c =
     elim c.if-byte-eq1.branch as (λ _. KeptBefore T list (l.j + 1) c.if-byte-eq1.kept) [
       | then-byte-eq1 w ↦
           let from_is = ap (λ (y : Step). y.from) w.step-x.ensures in
-          rw w.kept-is (kept_with T list l.j l.kept l.invariant inside w.if-byte-eq1.true (from_below table.bytes.now l.j table.passes inside) w.insert-kept.result (w.insert-kept.ensures ∙ ap (λ (s : ℕ). set_of 32 (λ t. member l.kept t || eqb t s)) from_is))
+          rw w.kept-is (kept_with T list l.j l.kept l.invariant inside w.if-byte-eq1.true
+          (from_below table.bytes.now l.j table.passes inside) w.insert-kept.result
+          (w.insert-kept.ensures ∙ ap (λ (s : ℕ). set_of 32 (λ t. member l.kept t || eqb t s)) from_is))
       | else-byte-eq1 w ↦ rw w.kept-is (kept_without T list l.j l.kept l.invariant w.if-byte-eq1.false)
     ]
 
 pub returns : goal.returns
-returns c = kept_all (table_of c.args.table.now.bytes.now) c.args.list.now c.loop-j.j c.loop-j.kept c.loop-j.invariant (omega (arith, c.requires))
+returns c = kept_all (table_of c.args.table.now.bytes.now) c.args.list.now c.loop-j.j c.loop-j.kept c.loop-j.invariant
+    (omega (arith, c.requires))

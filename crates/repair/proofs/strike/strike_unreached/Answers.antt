@@ -26,13 +26,17 @@ loop-j-preserved c =
     c.contains.ensures
     ∙ ap (λ (x : Step). member c.reached_states-reached.result x.from) c.step-x.ensures
     ∙ ap (λ (w : ℕ). member w (step_at T l.j).from) c.reached_states-reached.ensures
-    ∙ member-set_of-below 32 (is_reached T list) (step_at T l.j).from (from_below table.bytes.now l.j table.passes listed) in
+    ∙ member-set_of-below 32 (is_reached T list) (step_at T l.j).from
+    (from_below table.bytes.now l.j table.passes listed) in
     elim c.if-not-contains.branch as (λ _. StruckBefore T list (l.j + 1) c.if-not-contains.list) [
-      | then-not-contains w ↦ rw w.list-is (struck_at T list l.j l.list l.invariant listed (sym reached ∙ w.if-not-contains.true) inside)
-      | else-not-contains w ↦ rw w.list-is (struck_not T list l.j l.list l.invariant listed (sym reached ∙ w.if-not-contains.false))
+      | then-not-contains w ↦ rw w.list-is
+          (struck_at T list l.j l.list l.invariant listed (sym reached ∙ w.if-not-contains.true) inside)
+      | else-not-contains w ↦ rw w.list-is
+          (struck_not T list l.j l.list l.invariant listed (sym reached ∙ w.if-not-contains.false))
     ]
 
 pub returns : goal.returns
 returns c =
     let l = c.loop-j in
-    struck_all (table_in c.args.net.now) c.args.list.now l.j l.list l.invariant c.requires (omega (arith, c.loop-j-test.false))
+    struck_all (table_in c.args.net.now) c.args.list.now l.j l.list l.invariant c.requires
+    (omega (arith, c.loop-j-test.false))

@@ -1,4 +1,5 @@
--- `strike_unreached` meets its contract. The loop's invariant: the steps before j are struck where that is due, and the others are as they were.
+-- `strike_unreached` meets its contract. The loop's invariant: the steps before j are struck where that is due, and
+-- the others are as they were.
 use Rattle.events.specs.NetTable.{table_in}
 use Rattle.repair.proofs.Struck.{StruckBefore}
 use Rattle.repair.proofs.strike.strike_unreached.Given as goal

@@ -1,7 +1,7 @@
 -- `fit_input` meets its contract: what is written says what is printed.
 use Rattle.std.proofs.Common.{rules, OnOk}
 use Rattle.report.specs.Run.{Printed}
-use Rattle.report.proofs.Written.{ok_says}
+use Rattle.report.proofs.RunSays.{ok_says}
 use Rattle.report.proofs.run.fit_input.Goals as goal
 
 pub returns-clause-says : goal.returns-clause-says

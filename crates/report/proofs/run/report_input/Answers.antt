@@ -5,8 +5,8 @@ use Rattle.table.specs.declared.refusal.Refusal.TheVariants.{SheetForm}
 use Rattle.input.specs.declared.Input.{Input}
 use Rattle.input.specs.declared.Input.TheVariants.{More}
 use Rattle.input.specs.Input.{Gave}
-use Rattle.render.specs.Render.{Room}
-use Rattle.report.specs.Report.{refused}
+use Rattle.render.specs.Stored.{HasRoom}
+use Rattle.report.specs.Texts.{refused}
 use Rattle.report.proofs.Fits.{refused-length}
 use Rattle.report.proofs.Cases.{too_long, stored_front}
 use Rattle.report.proofs.run.report_input.Goals as goal
@@ -20,7 +20,7 @@ returns-in-More-clause-inside c =
 
 pub returns-in-More-clause-printed : goal.returns-in-More-clause-printed
 returns-in-More-clause-printed c bytes gave =
-    let room : Room c.args.out.now 0 (refused SheetForm) = omega (arith, refused-length SheetForm, c.told-out) in
+    let room : HasRoom c.args.out.now 0 (refused SheetForm) = omega (arith, refused-length SheetForm, c.told-out) in
     let k = stored_front c.args.out.now (refused SheetForm) _ _ room c.write_refused.ensures in
     let text = c.args.text.now in
     let more : Gave bytes text More = subst (λ (i : Input). Gave bytes text i) c.in-More.is gave in

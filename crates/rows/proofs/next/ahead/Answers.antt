@@ -17,7 +17,8 @@ loop-s-init c =
     let a = c.args in
     let met = is_met a.targets.now a.rows.now a.end in
     let lost = is_lost a.rows.now a.end in
-    let all = ap (λ (m : Members). m.left) c.into_iter-s-iterator.ensures.into_iter_gives ∙ c.members_of-s-items.ensures in
+    let all = ap (λ (m : Members). m.left) c.into_iter-s-iterator.ensures.into_iter_gives
+    ∙ c.members_of-s-items.ensures in
     subst (λ (w : ℕ). Left a.set w × (0 ≡ found a.set w met) × (0 ≡ found a.set w lost)) (sym all)
     (left_first a.set c.ranges.set.fits, collect_first a.set met, collect_first a.set lost)
 

@@ -12,7 +12,8 @@ pub returns-then-set-ne0 : goal.returns-then-set-ne0
 unfolding only
 returns-then-set-ne0 c =
     let x : ℕ = c.args.set in
-    let without_lowest : c.remove.result ≡ set_of 32 (λ t. member x t && not (eqb t (lowest_of 32 (member x)))) = rw (← c.lowest.ensures) c.remove.ensures in
+    let without_lowest : c.remove.result ≡ set_of 32 (λ t. member x t && not (eqb t (lowest_of 32 (member x)))) =
+    rw (← c.lowest.ensures) c.remove.ensures in
     rw (ne_eqb x 0 c.if-set-ne0.true, without_lowest)
 
 pub returns-else-set-ne0 : goal.returns-else-set-ne0

@@ -10,7 +10,8 @@ use Rattle.search.proofs.step_rows.lowest_unsettled.Goals as goal
 pub returns-then-not-is_settled : goal.returns-then-not-is_settled
 returns-then-not-is_settled c =
     let T = table_of c.args.table.now.bytes.now in
-    lowest_here (length T.steps) (is_unsettled T c.args.rows.now) c.loop-j.j (omega arith) c.loop-j.invariant (search rules)
+    lowest_here (length T.steps) (is_unsettled T c.args.rows.now) c.loop-j.j (omega arith) c.loop-j.invariant
+    (search rules)
 
 pub returns : goal.returns
 returns c =

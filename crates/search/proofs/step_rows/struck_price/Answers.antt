@@ -28,13 +28,17 @@ loop-j-init c = (c.step_count-j-end.ensures, refl, zero-le)
 pub price_if_struck-price-requires : goal.price_if_struck-price-requires
 price_if_struck-price-requires c =
     let table = c.args.table.now in
-    let j = c.loop-j.j in
-    (rw c.step.ensures (from_below table.bytes.now j table.passes (omega arith)), rw c.step.ensures (table.prices_are_bytes j))
+    let j = c.loop-j.j in (
+      rw c.step.ensures (from_below table.bytes.now j table.passes (omega arith)),
+      rw c.step.ensures (table.prices_are_bytes j),
+    )
 
 pub overflow_add-price : goal.overflow_add-price
 overflow_add-price c =
     let table = c.args.table.now in
-    let one = one_step (table_of table.bytes.now) c.args.rows.now c.loop-j.j c.step.result c.price_if_struck-price.result c.step.ensures (table.prices_are_bytes c.loop-j.j) c.price_if_struck-price.ensures in
+    let one = one_step (table_of table.bytes.now) c.args.rows.now c.loop-j.j c.step.result
+    c.price_if_struck-price.result c.step.ensures (table.prices_are_bytes c.loop-j.j)
+    c.price_if_struck-price.ensures in
     omega (arith, one.1, (accepted table.bytes.now table.passes).table.few_steps)
 
 pub loop-j-preserved : goal.loop-j-preserved
@@ -42,7 +46,8 @@ loop-j-preserved c =
     let table = c.args.table.now in
     let T = table_of table.bytes.now in
     let l = c.loop-j in
-    let one = one_step T c.args.rows.now l.j c.step.result c.price_if_struck-price.result c.step.ensures (table.prices_are_bytes l.j) c.price_if_struck-price.ensures in (
+    let one = one_step T c.args.rows.now l.j c.step.result c.price_if_struck-price.result c.step.ensures
+    (table.prices_are_bytes l.j) c.price_if_struck-price.ensures in (
       l.invariant.0,
       (λ i. l.invariant.1 i + one.0 i) ∙ sym (sum_next l.j (cost T c.args.rows.now)),
       omega (arith, one.1),

@@ -1,4 +1,5 @@
--- `struck_price` meets its contract. The loop's invariant: the prices of the struck steps before j are added up, each of them a byte.
+-- `struck_price` meets its contract. The loop's invariant: the prices of the struck steps before j are added up, each
+-- of them a byte.
 use Prim.Native.Nat.{ℕ, ◌*◌, ◌≤◌}
 use mathlib.Core.Path.{◌≡◌}
 use mathlib.Core.Bool.{false, cond}
@@ -15,4 +16,5 @@ cost T rows i = cond (step_bit rows false (step_at T i)) (step_at T i).price 0
 
 abbrev pub invariant-loop-j : goal.invariant-loop-j
 invariant-loop-j l =
-    let T = table_of l.table.bytes.now in (l.j-end ≡ length T.steps) × (l.price ≡ sum_below l.j (cost T l.rows)) × (l.price ≤ 255 * l.j)
+    let T = table_of l.table.bytes.now in (l.j-end ≡ length T.steps) × (l.price ≡ sum_below l.j (cost T l.rows))
+    × (l.price ≤ 255 * l.j)

@@ -8,4 +8,5 @@ use Rattle.search.proofs.step_rows.write_list.Given as goal
 
 abbrev pub invariant-loop-j : goal.invariant-loop-j
 invariant-loop-j l =
-    let T = table_of l.table.bytes.now in (l.j-end ≡ length T.steps) × (l.list ≡ over l.j (kept_bytes T l.rows) l.initial.list)
+    let T = table_of l.table.bytes.now in (l.j-end ≡ length T.steps)
+    × (l.list ≡ over l.j (kept_bytes T l.rows) l.initial.list)

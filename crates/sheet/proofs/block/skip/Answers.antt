@@ -13,7 +13,8 @@ returns-in_err-behind g c =
     let p = g.L.Line.parser in
     let n = a.count - c.loop.counter in
     ap (passing (values a.count p a.text.now)) c.from_residual.ensures
-    ∙ sym (behind_none (times a.count p a.text.now) (c.loop.invariant ∙ times_broken p n c.loop.rest.now (omega arith) (sym c.in_err-behind.ensures)))
+    ∙ sym (behind_none (times a.count p a.text.now)
+    (c.loop.invariant ∙ times_broken p n c.loop.rest.now (omega arith) (sym c.in_err-behind.ensures)))
 
 pub loop-preserved : goal.loop-preserved
 loop-preserved g c =
@@ -22,7 +23,8 @@ loop-preserved g c =
     let n = a.count - c.loop.counter in
     let fewer : n - 1 ≡ a.count - (c.loop.counter + 1) = omega arith in
     c.loop.invariant
-    ∙ times_next p n c.loop.rest.now c.in_ok-behind.field-0-0 c.in_ok-behind.behind.now (omega arith) (sym c.in_ok-behind.ensures)
+    ∙ times_next p n c.loop.rest.now c.in_ok-behind.field-0-0 c.in_ok-behind.behind.now (omega arith)
+    (sym c.in_ok-behind.ensures)
     ∙ ap (λ (k : ℕ). behind (times k p c.in_ok-behind.behind.now)) fewer
 
 pub returns : goal.returns
@@ -31,4 +33,5 @@ returns g c =
     let a = c.args in
     let p = g.L.Line.parser in
     let none_left : a.count - c.loop.counter ≡ 0 = omega arith in
-    sym (times_values p a.count a.text.now c.loop.rest.now (c.loop.invariant ∙ ap (λ (k : ℕ). behind (times k p c.loop.rest.now)) none_left))
+    sym (times_values p a.count a.text.now c.loop.rest.now
+    (c.loop.invariant ∙ ap (λ (k : ℕ). behind (times k p c.loop.rest.now)) none_left))

@@ -6,4 +6,5 @@ use Rattle.sheet.proofs.Times.{behind}
 use Rattle.sheet.proofs.block.skip.Given as goal
 
 abbrev pub invariant-loop : goal.invariant-loop
-invariant-loop g l = behind (times l.count g.L.Line.parser l.text) ≡ behind (times (l.count - l.counter) g.L.Line.parser l.rest)
+invariant-loop g l =
+    behind (times l.count g.L.Line.parser l.text) ≡ behind (times (l.count - l.counter) g.L.Line.parser l.rest)

@@ -11,7 +11,9 @@ use Rattle.sheet.specs.Reading.{passing}
 use Rattle.sheet.proofs.Exact.{exact_bytes}
 use Rattle.sheet.proofs.names.skip_names.Goals as goal
 
-stripped : (text names : List ℕ) (r : Option (Bor (List ℕ))) → MatchOption r ((rest : List ℕ) → text ≢ names ++ rest) (λ x. text ≡ names ++ x.now) → passing tt r ≡ exactly names text
+stripped : (text names : List ℕ) (r : Option (Bor (List ℕ)))
+    → MatchOption r ((rest : List ℕ) → text ≢ names ++ rest) (λ x. text ≡ names ++ x.now)
+    → passing tt r ≡ exactly names text
 stripped text names (Some x) e = sym (ap (exactly names) e ∙ (exact_bytes names).complete tt x.now tt)
 stripped text names None none = go (exactly names text) refl
   where
@@ -22,4 +24,5 @@ stripped text names None none = go (exactly names text) refl
 pub returns : goal.returns
 returns c =
     let a = c.args in
-    stripped a.text.now a.names.now c.strip_prefix.result (strip_prefix_is Decides-eqb a.text.now a.names.now c.strip_prefix.result c.strip_prefix.ensures.cases)
+    stripped a.text.now a.names.now c.strip_prefix.result
+    (strip_prefix_is Decides-eqb a.text.now a.names.now c.strip_prefix.result c.strip_prefix.ensures.cases)

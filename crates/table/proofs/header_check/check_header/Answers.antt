@@ -21,7 +21,8 @@ pub returns-then-not-counts_fit-clause-refused : goal.returns-then-not-counts_fi
 unfolding table_verdict
 returns-then-not-counts_fit-clause-refused c =
     let l = c.args.table.now in
-    let out : counts_fit (counts_of l) ≡ false = ap counts_fit (sym c.counts_of-c.ensures) ∙ sym c.counts_fit.ensures ∙ c.if-not-counts_fit.true in
+    let out : counts_fit (counts_of l) ≡ false =
+    ap counts_fit (sym c.counts_of-c.ensures) ∙ sym c.counts_fit.ensures ∙ c.if-not-counts_fit.true in
     simp (le-leb 4 (length l) (omega arith), out)
 
 pub packed_length-requires : goal.packed_length-requires
@@ -34,8 +35,11 @@ unfolding table_verdict
 returns-then-table-packed_length-clause-refused c =
     let l = c.args.table.now in
     let k = c.counts_of-c.ensures in
-    let fit : counts_fit (counts_of l) ≡ true = ap counts_fit (sym k) ∙ sym c.counts_fit.ensures ∙ c.if-not-counts_fit.false in
-    let off : eqb (length l) (packed_length (counts_of l)) ≡ false = ap (λ (n : ℕ). eqb (length l) n) (ap packed_length (sym k) ∙ sym c.packed_length.ensures) ∙ ne_eqb (length l) c.packed_length.result c.if-table-packed_length.true in
+    let fit : counts_fit (counts_of l) ≡ true =
+    ap counts_fit (sym k) ∙ sym c.counts_fit.ensures ∙ c.if-not-counts_fit.false in
+    let off : eqb (length l) (packed_length (counts_of l)) ≡ false =
+    ap (λ (n : ℕ). eqb (length l) n) (ap packed_length (sym k) ∙ sym c.packed_length.ensures)
+    ∙ ne_eqb (length l) c.packed_length.result c.if-table-packed_length.true in
     simp (le-leb 4 (length l) (omega arith), fit, off)
 
 pub returns-clause-accepted : goal.returns-clause-accepted

@@ -1,4 +1,5 @@
--- `check_list` meets its contract. The loop's invariant: the list's bytes are all bits exactly when those from j on are.
+-- `check_list` meets its contract. The loop's invariant: the list's bytes are all bits exactly when those from j on
+-- are.
 use mathlib.Core.Bool.{Bool, true, false, ◌&&◌}
 use Prim.Native.Nat.{◌+◌, zero-le}
 use lib.Dec.{leb}
@@ -17,7 +18,8 @@ pub returns-then-list-e-clause-value : goal.returns-then-list-e-clause-value
 unfolding list_verdict
 returns-then-list-e-clause-value c =
     let a = c.args in
-    ap (λ (b : Bool). require ListForm (b && all (λ k. leb k 1) a.list.now)) (sym (ne_eqb (length a.list.now) a.e c.if-list-e.true))
+    ap (λ (b : Bool). require ListForm (b && all (λ k. leb k 1) a.list.now))
+    (sym (ne_eqb (length a.list.now) a.e c.if-list-e.true))
 
 pub returns-then-list-e-clause-accepted : goal.returns-then-list-e-clause-accepted
 returns-then-list-e-clause-accepted c = list_accepts c.args.e c.args.list.now _ (returns-then-list-e-clause-value c)
@@ -31,8 +33,11 @@ returns-then-byte-gt1-clause-value c =
     let a = c.args in
     let l = a.list.now in
     let j = c.loop-byte.byte-index in
-    let whole : all (λ k. leb k 1) l ≡ false = c.loop-byte.invariant.1 ∙ all_next (λ k. leb k 1) l j c.loop-byte-test.true ∙ ap (λ (b : Bool). b && all (λ k. leb k 1) (drop (j + 1) l)) (lt-leb (get_or l j 0) 1 c.if-byte-gt1.true) in
-    sym (ap (λ (b : Bool). require ListForm (b && all (λ k. leb k 1) l)) (eq-eqb (length l) a.e c.if-list-e.false) ∙ ap (require ListForm) whole)
+    let whole : all (λ k. leb k 1) l ≡ false =
+    c.loop-byte.invariant.1 ∙ all_next (λ k. leb k 1) l j c.loop-byte-test.true
+    ∙ ap (λ (b : Bool). b && all (λ k. leb k 1) (drop (j + 1) l)) (lt-leb (get_or l j 0) 1 c.if-byte-gt1.true) in
+    sym (ap (λ (b : Bool). require ListForm (b && all (λ k. leb k 1) l)) (eq-eqb (length l) a.e c.if-list-e.false)
+    ∙ ap (require ListForm) whole)
 
 pub returns-then-byte-gt1-clause-accepted : goal.returns-then-byte-gt1-clause-accepted
 returns-then-byte-gt1-clause-accepted c = list_accepts c.args.e c.args.list.now _ (returns-then-byte-gt1-clause-value c)
@@ -41,8 +46,11 @@ pub loop-byte-preserved : goal.loop-byte-preserved
 loop-byte-preserved c =
     let a = c.args in
     let l = a.list.now in
-    let j = c.loop-byte.byte-index in
-    (omega arith, c.loop-byte.invariant.1 ∙ all_next (λ k. leb k 1) l j c.loop-byte-test.true ∙ ap (λ (b : Bool). b && all (λ k. leb k 1) (drop (j + 1) l)) (le-leb (get_or l j 0) 1 c.if-byte-gt1.false))
+    let j = c.loop-byte.byte-index in (
+      omega arith,
+      c.loop-byte.invariant.1 ∙ all_next (λ k. leb k 1) l j c.loop-byte-test.true
+          ∙ ap (λ (b : Bool). b && all (λ k. leb k 1) (drop (j + 1) l)) (le-leb (get_or l j 0) 1 c.if-byte-gt1.false),
+    )
 
 pub returns-clause-value : goal.returns-clause-value
 unfolding list_verdict all
@@ -50,8 +58,10 @@ returns-clause-value c =
     let a = c.args in
     let l = a.list.now in
     let j = c.loop-byte.byte-index in
-    let whole : all (λ k. leb k 1) l ≡ true = c.loop-byte.invariant.1 ∙ ap (all (λ k. leb k 1)) (drop_of_length-le l {i = j} c.loop-byte-test.false) in
-    sym (ap (λ (b : Bool). require ListForm (b && all (λ k. leb k 1) l)) (eq-eqb (length l) a.e c.if-list-e.false) ∙ ap (require ListForm) whole)
+    let whole : all (λ k. leb k 1) l ≡ true =
+    c.loop-byte.invariant.1 ∙ ap (all (λ k. leb k 1)) (drop_of_length-le l {i = j} c.loop-byte-test.false) in
+    sym (ap (λ (b : Bool). require ListForm (b && all (λ k. leb k 1) l)) (eq-eqb (length l) a.e c.if-list-e.false)
+    ∙ ap (require ListForm) whole)
 
 pub returns-clause-accepted : goal.returns-clause-accepted
 returns-clause-accepted c = list_accepts c.args.e c.args.list.now _ (returns-clause-value c)

@@ -7,4 +7,7 @@ use Rattle.table.specs.Table.{records, node_of, node_width}
 use Rattle.table.proofs.node_check.check_nodes.Given as goal
 
 abbrev pub invariant-loop-i : goal.invariant-loop-i
-invariant-loop-i l = (l.i ≤ l.f) × (nodes_fit l.p 0 (records node_of node_width l.f l.section) ≡ nodes_fit l.p l.i (drop l.i (records node_of node_width l.f l.section)))
+invariant-loop-i l =
+    (l.i ≤ l.f)
+    × (nodes_fit l.p 0 (records node_of node_width l.f l.section)
+    ≡ nodes_fit l.p l.i (drop l.i (records node_of node_width l.f l.section)))

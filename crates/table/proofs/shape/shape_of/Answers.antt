@@ -4,7 +4,7 @@ use mathlib.Core.Path.{◌≡◌, refl, sym}
 use native.Mathlib.Omega.{arith}
 use lib.ListN.{get_or-eq_default}
 use Rattle.table.specs.declared.shape.Shape.TheVariants.{Constant, Unary, Binary, Unknown}
-use Rattle.table.specs.Accept.{shapes, shape_of}
+use Rattle.table.specs.Shape.{shapes, shape_of}
 use Rattle.table.proofs.Numbers.{two, four}
 use Rattle.table.proofs.shape.shape_of.Goals as goal
 

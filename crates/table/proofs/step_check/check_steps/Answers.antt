@@ -1,4 +1,5 @@
--- `check_steps` meets its contract. The loop's invariant: the steps before j have their bits, and `repeated` says whether one of them repeats another.
+-- `check_steps` meets its contract. The loop's invariant: the steps before j have their bits, and `repeated` says
+-- whether one of them repeats another.
 use lib.Seq.{take_all}
 use lib.ListN.{get_or, set, take, drop}
 use Rattle.sets.specs.Member.{member}
@@ -38,20 +39,29 @@ returns-then-not-step_fits c =
     let x = c.record_at-x.result in
     let xs = records step_of step_width a.e a.section.now in
     let fails : step_fits a.n x ≡ false = sym c.step_fits.ensures ∙ c.if-not-step_fits.true in
-    let whole : all (step_fits a.n) xs ≡ false = c.loop-j.invariant.1 ∙ record_all step_of step_width a.e a.section.now j c.loop-j-test.true x c.record_at-x.ensures (step_fits a.n) ∙ ap (λ (b : Bool). b && all (step_fits a.n) (drop (j + 1) xs)) fails in
+    let whole : all (step_fits a.n) xs ≡ false =
+    c.loop-j.invariant.1
+    ∙ record_all step_of step_width a.e a.section.now j c.loop-j-test.true x c.record_at-x.ensures (step_fits a.n)
+    ∙ ap (λ (b : Bool). b && all (step_fits a.n) (drop (j + 1) xs)) fails in
     ap (λ (b : Bool). require StepEnd b then require RepeatedStep (distinct xs)) (sym whole)
 
 pub offset_bounds-given-x : goal.offset_bounds-given-x
-offset_bounds-given-x c = let h = ends c.args.n c.record_at-x.result c.step_fits.result c.requires c.step_fits.ensures c.if-not-step_fits.false in omega (arith, h.0)
+offset_bounds-given-x c =
+    let h = ends c.args.n c.record_at-x.result c.step_fits.result c.requires c.step_fits.ensures
+    c.if-not-step_fits.false in omega (arith, h.0)
 
 pub bounds-given-x : goal.bounds-given-x
-bounds-given-x c = (ends c.args.n c.record_at-x.result c.step_fits.result c.requires c.step_fits.ensures c.if-not-step_fits.false).0
+bounds-given-x c =
+    (ends c.args.n c.record_at-x.result c.step_fits.result c.requires c.step_fits.ensures c.if-not-step_fits.false).0
 
 pub offset_bounds-given-x-in-loop-j : goal.offset_bounds-given-x-in-loop-j
-offset_bounds-given-x-in-loop-j c = let h = ends c.args.n c.record_at-x.result c.step_fits.result c.requires c.step_fits.ensures c.if-not-step_fits.false in omega (arith, h.0)
+offset_bounds-given-x-in-loop-j c =
+    let h = ends c.args.n c.record_at-x.result c.step_fits.result c.requires c.step_fits.ensures
+    c.if-not-step_fits.false in omega (arith, h.0)
 
 pub bounds-given-x-in-loop-j : goal.bounds-given-x-in-loop-j
-bounds-given-x-in-loop-j c = (ends c.args.n c.record_at-x.result c.step_fits.result c.requires c.step_fits.ensures c.if-not-step_fits.false).0
+bounds-given-x-in-loop-j c =
+    (ends c.args.n c.record_at-x.result c.step_fits.result c.requires c.step_fits.ensures c.if-not-step_fits.false).0
 
 pub loop-j-preserved : goal.loop-j-preserved
 loop-j-preserved c =
@@ -70,14 +80,18 @@ loop-j-preserved c =
     let more : Rows (set rows x.from c.insert.result) (take (j + 1) xs) =
     rw seam (rw c.insert.ensures (rows_more rows (take j xs) g x in_range.0 in_range.1)) in
     let whole : not (distinct (take (j + 1) xs)) ≡ c.loop-j.repeated || member (get_or rows x.from 0) x.to =
-    rw seam (repeated_more rows (take j xs) g x in_range.0 in_range.1 ∙ ap (λ (b : Bool). b || member (get_or rows x.from 0) x.to) (sym c.loop-j.invariant.3)) in
+    rw seam (repeated_more rows (take j xs) g x in_range.0 in_range.1
+    ∙ ap (λ (b : Bool). b || member (get_or rows x.from 0) x.to) (sym c.loop-j.invariant.3)) in
     let again : c.if-repeated.repeated ≡ not (distinct (take (j + 1) xs)) =
     elim c.if-repeated.branch as (λ _. c.if-repeated.repeated ≡ not (distinct (take (j + 1) xs))) [
-      | then-repeated w ↦ w.repeated-is ∙ w.if-repeated.true ∙ sym (whole ∙ ap (λ (b : Bool). b || member (get_or rows x.from 0) x.to) w.if-repeated.true)
-      | else-repeated w ↦ w.repeated-is ∙ w.contains-repeated.ensures ∙ sym (whole ∙ ap (λ (b : Bool). b || member (get_or rows x.from 0) x.to) w.if-repeated.false)
+      | then-repeated w ↦ w.repeated-is ∙ w.if-repeated.true
+          ∙ sym (whole ∙ ap (λ (b : Bool). b || member (get_or rows x.from 0) x.to) w.if-repeated.true)
+      | else-repeated w ↦ w.repeated-is ∙ w.contains-repeated.ensures
+          ∙ sym (whole ∙ ap (λ (b : Bool). b || member (get_or rows x.from 0) x.to) w.if-repeated.false)
     ] in (
       omega arith,
-      c.loop-j.invariant.1 ∙ record_all step_of step_width a.e l j h x here (step_fits a.n) ∙ ap (λ (b : Bool). b && all (step_fits a.n) (drop (j + 1) xs)) (sym c.step_fits.ensures ∙ fits),
+      c.loop-j.invariant.1 ∙ record_all step_of step_width a.e l j h x here (step_fits a.n)
+          ∙ ap (λ (b : Bool). b && all (step_fits a.n) (drop (j + 1) xs)) (sym c.step_fits.ensures ∙ fits),
       more,
       again,
     )
@@ -90,10 +104,14 @@ returns-then-repeated-2 c =
     let j = c.loop-j.j in
     let xs = records step_of step_width a.e l in
     let e : j ≡ a.e = omega arith in
-    let fit : all (step_fits a.n) xs ≡ true = c.loop-j.invariant.1 ∙ ap (all (step_fits a.n)) (records_done step_of step_width a.e l j c.loop-j-test.false) in
+    let fit : all (step_fits a.n) xs ≡ true =
+    c.loop-j.invariant.1 ∙ ap (all (step_fits a.n)) (records_done step_of step_width a.e l j c.loop-j-test.false) in
     let all_of : take j xs ≡ xs = take_all j xs (omega (arith, records-length step_of step_width a.e l)) in
-    let rep : distinct xs ≡ false = not-true _ (sym (c.loop-j.invariant.3 ∙ ap (λ (ys : List Step). not (distinct ys)) all_of) ∙ c.if-repeated-2.true) in
-    sym (ap (λ (b : Bool). require StepEnd b then require RepeatedStep (distinct xs)) fit ∙ ap (require RepeatedStep) rep)
+    let rep : distinct xs ≡ false =
+    not-true _ (sym (c.loop-j.invariant.3 ∙ ap (λ (ys : List Step). not (distinct ys)) all_of)
+    ∙ c.if-repeated-2.true) in
+    sym (ap (λ (b : Bool). require StepEnd b then require RepeatedStep (distinct xs)) fit
+    ∙ ap (require RepeatedStep) rep)
 
 pub returns-else-repeated-2 : goal.returns-else-repeated-2
 unfolding all
@@ -102,7 +120,11 @@ returns-else-repeated-2 c =
     let l = a.section.now in
     let j = c.loop-j.j in
     let xs = records step_of step_width a.e l in
-    let fit : all (step_fits a.n) xs ≡ true = c.loop-j.invariant.1 ∙ ap (all (step_fits a.n)) (records_done step_of step_width a.e l j c.loop-j-test.false) in
+    let fit : all (step_fits a.n) xs ≡ true =
+    c.loop-j.invariant.1 ∙ ap (all (step_fits a.n)) (records_done step_of step_width a.e l j c.loop-j-test.false) in
     let all_of : take j xs ≡ xs = take_all j xs (omega (arith, records-length step_of step_width a.e l)) in
-    let rep : distinct xs ≡ true = not-false _ (sym (c.loop-j.invariant.3 ∙ ap (λ (ys : List Step). not (distinct ys)) all_of) ∙ c.if-repeated-2.false) in
-    sym (ap (λ (b : Bool). require StepEnd b then require RepeatedStep (distinct xs)) fit ∙ ap (require RepeatedStep) rep)
+    let rep : distinct xs ≡ true =
+    not-false _ (sym (c.loop-j.invariant.3 ∙ ap (λ (ys : List Step). not (distinct ys)) all_of)
+    ∙ c.if-repeated-2.false) in
+    sym (ap (λ (b : Bool). require StepEnd b then require RepeatedStep (distinct xs)) fit
+    ∙ ap (require RepeatedStep) rep)

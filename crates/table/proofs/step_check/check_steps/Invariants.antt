@@ -1,4 +1,5 @@
--- `check_steps` meets its contract. The loop's invariant: the steps before j have their bits, and `repeated` says whether one of them repeats another.
+-- `check_steps` meets its contract. The loop's invariant: the steps before j have their bits, and `repeated` says
+-- whether one of them repeats another.
 use lib.ListN.{take, drop}
 use Prim.Native.Nat.{◌≤◌}
 use mathlib.Core.Path.{◌≡◌}
@@ -11,6 +12,7 @@ use Rattle.table.proofs.step_check.check_steps.Given as goal
 abbrev pub invariant-loop-j : goal.invariant-loop-j
 invariant-loop-j l =
     (l.j ≤ l.e)
-    × (all (step_fits l.n) (records step_of step_width l.e l.section) ≡ all (step_fits l.n) (drop l.j (records step_of step_width l.e l.section)))
+    × (all (step_fits l.n) (records step_of step_width l.e l.section)
+    ≡ all (step_fits l.n) (drop l.j (records step_of step_width l.e l.section)))
     × Rows l.given (take l.j (records step_of step_width l.e l.section))
     × (l.repeated ≡ not (distinct (take l.j (records step_of step_width l.e l.section))))

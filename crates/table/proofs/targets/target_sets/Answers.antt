@@ -15,7 +15,9 @@ use Rattle.table.proofs.targets.target_sets.Goals.{After-step-x}
 
 -- both ends of the step that was read are among the 32 states
 ends : (c : After-step-x) → (c.step-x.result.from < 32) × (c.step-x.result.to < 32)
-ends c = step_ends c.args.table.now.bytes.now c.args.table.now.passes c.loop-j.j (omega arith) c.step-x.result c.step-x.ensures
+ends c =
+    let table = c.args.table.now in
+    step_ends table.bytes.now table.passes c.loop-j.j (omega arith) c.step-x.result c.step-x.ensures
 
 pub loop-j-init : goal.loop-j-init
 loop-j-init c = rows_none
@@ -32,7 +34,8 @@ loop-j-preserved c =
     let j = c.loop-j.j in
     let x = c.step-x.result in
     let low = step_ends c.args.table.now.bytes.now c.args.table.now.passes j (omega arith) x c.step-x.ensures in
-    let more : take (j + 1) xs ≡ take j xs ++ (x ∷ []) = let h : j < length xs = omega arith in rw (add-one j, take-suc xs j zero_step, c.step-x.ensures) refl in
+    let h : j < length xs = omega arith in
+    let more : take (j + 1) xs ≡ take j xs ++ (x ∷ []) = rw (add-one j, take-suc xs j zero_step, c.step-x.ensures) refl in
     rw (more, c.insert.ensures) (rows_more c.loop-j.rows (take j xs) c.loop-j.invariant x low.0 low.1)
 
 pub returns : goal.returns

@@ -17,7 +17,8 @@ pub returns-clause-closes : goal.returns-clause-closes
 returns-clause-closes c P between =
     let cut = c.split_at_mut-levels.ensures in
     let all = cut.front_len ∙ c.args.net.now.setting.all_levels in
-    whole_closes _ _ _ _ (c.close.auto.words ∙ all) P c.close.result (c.close.ensures.closed.closes P (part_between _ _ _ _ all _ cut.value P between))
+    whole_closes _ _ _ _ (c.close.auto.words ∙ all) P c.close.result
+    (c.close.ensures.closed.closes P (part_between _ _ _ _ all _ cut.value P between))
 
 pub returns-clause-resting : goal.returns-clause-resting
 returns-clause-resting c e =

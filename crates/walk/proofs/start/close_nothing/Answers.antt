@@ -12,7 +12,8 @@ use Rattle.walk.proofs.Zeroed.{none_between}
 use Rattle.walk.proofs.start.close_nothing.Goals as goal
 
 -- rows and words of 0
-nothing_between : (T : Table) (rows words : List ℕ) (k : ℕ) → rows ≡ replicate 130 0 → words ≡ replicate k 0 → Between T [] (memory rows words)
+nothing_between : (T : Table) (rows words : List ℕ) (k : ℕ) → rows ≡ replicate 130 0 → words ≡ replicate k 0
+    → Between T [] (memory rows words)
 nothing_between T rows words k no_step no_level = rw (no_step, no_level) (none_between T k)
 
 pub close_parts-requires-clause-founded : goal.close_parts-requires-clause-founded

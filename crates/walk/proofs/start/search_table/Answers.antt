@@ -23,9 +23,13 @@ returns-clause-value c =
     let r = c.walk_table-walked.result in
     let find = c.walk_table-walked.new.find in
     let closed = c.close_nothing-closed in
-    let settled = settled_only T wf [] (closure-is_right T wf).fine_none (settled_of closed.result) closed.ensures.closes.settled in
-    c.finish.ensures.value ∙ start_answer T c.args.cap find r c.walk_table-walked.ensures c.unwrap_or.result (c.unwrap_or.ensures ∙ number_of closed.result ∙ settled)
+    let settled = settled_only T wf [] (closure-is_right T wf).fine_none (settled_of closed.result)
+    closed.ensures.closes.settled in
+    c.finish.ensures.value ∙ start_answer T c.args.cap find r c.walk_table-walked.ensures c.unwrap_or.result
+    (c.unwrap_or.ensures ∙ number_of closed.result ∙ settled)
 
 pub returns-clause-list_after : goal.returns-clause-list_after
 returns-clause-list_after c =
-    c.finish.ensures.list_after ∙ start_list (table_in c.args.net.now) c.args.cap c.walk_table-walked.new.find c.walk_table-walked.result c.walk_table-walked.ensures c.args.list.now
+    c.finish.ensures.list_after
+    ∙ start_list (table_in c.args.net.now) c.args.cap c.walk_table-walked.new.find c.walk_table-walked.result
+    c.walk_table-walked.ensures c.args.list.now

@@ -11,7 +11,7 @@ use Rattle.std.proofs.lemmas.Result.{err_from_is_err_and}
 use Rattle.table.specs.Table.{Table}
 use Rattle.events.specs.NetTable.{table_in}
 use Rattle.circuit.specs.Logic.{Literal}
-use Rattle.closure.specs.Closure.{Marks}
+use Rattle.closure.specs.Computed.{Marks}
 use Rattle.closure.specs.Knowledge.{level_total}
 use Rattle.propagate.specs.Memory.{memory}
 use Rattle.search.specs.Finds.{Held, Stores, Gives}
@@ -32,7 +32,16 @@ use Rattle.walk.proofs.Lent.{
   lent_between,
   lent_rests,
 }
-use Rattle.walk.proofs.TryLaws.{try_within, walk_capped, kept_cut, kept_passed, kept_then, try_ended, try_goes, try_onward}
+use Rattle.walk.proofs.TryLaws.{
+  try_within,
+  walk_capped,
+  kept_cut,
+  kept_passed,
+  kept_then,
+  try_ended,
+  try_goes,
+  try_onward,
+}
 use Rattle.walk.proofs.tries.+tries.Goals as goal
 use Rattle.walk.proofs.tries.+tries.Goals.{
   kept_try-in-Ended,
@@ -56,7 +65,8 @@ module _ {levels room from : ℕ} {words mid : List ℕ} (keeps : Keeps levels r
   -- where the struck try stands, with what the kept one found: at the same rows
   struck_stands : (after : List ℕ) (size : length after ≡ length (take (length mid - from) (drop from mid)))
       (rest : List ℕ) → rest ≡ left_words levels from mid after
-      → {best' : Held} {find' : List ℕ} (b' : Best) → Stores T b' best' find' → GoesOn T j (memory rows rest) best' find' P m b'
+      → {best' : Held} {find' : List ℕ} (b' : Best) → Stores T b' best' find'
+      → GoesOn T j (memory rows rest) best' find' P m b'
   struck_stands after size rest is b' stores = record {
     stands = g.stands;
     between = left_between keeps after size T rows all rest is (step_literals P) g.between;
@@ -78,7 +88,8 @@ kept_try-returns-in_default t c P m b g =
 
 pub kept_try-choose-requires-clause-resting : goal.kept_try-choose-requires-clause-resting
 kept_try-choose-requires-clause-resting t c e =
-    lent_rests c.keep-from.ensures (table_in c.args.net.now) c.args.rows.now c.args.net.now.setting.all_levels c.requires.resting
+    lent_rests c.keep-from.ensures (table_in c.args.net.now) c.args.rows.now c.args.net.now.setting.all_levels
+    c.requires.resting
 
 pub kept_try-choose-requires-clause-somewhere : goal.kept_try-choose-requires-clause-somewhere
 kept_try-choose-requires-clause-somewhere t c =
@@ -89,7 +100,8 @@ pub kept_try-kept_try-requires : goal.kept_try-kept_try-requires
 kept_try-kept_try-requires t c =
     let stand = c.requires.somewhere in
     let all = c.args.net.now.setting.all_levels in
-    let goes = try_goes _ (net_table c.args.net.now) c.args.j c.args.rows.now stand.0 stand.1 stand.3.stands true c.args.choices
+    let goes = try_goes _ (net_table c.args.net.now) c.args.j c.args.rows.now stand.0 stand.1 stand.3.stands true
+    c.args.choices
     c.in-Some.more (sym c.in-Some.is ∙ c.step.ensures) stand.2 _ _ _ _
     (c.choose.ensures stand.0 stand.1 stand.2 (kept_stands c.keep-from.ensures all stand.3))
     c.in-Unsettled.k c.in-Unsettled.is c.requires.made_le_cap in (
@@ -101,7 +113,8 @@ pub kept_try-returns-in_err-kept-in-Unsettled : goal.kept_try-returns-in_err-kep
 kept_try-returns-in_err-kept-in-Unsettled t c P m b g =
     let p = err_from_is_err_and c.from_residual.result c.from_residual.ensures.1 in
     rw (p.1, p.2)
-    (kept_cut (table_in c.args.net.now) c.args.choices c.args.j c.args.rows.now P m g.stands b c.kept_try.new.find c.kept_try.result
+    (kept_cut (table_in c.args.net.now) c.args.choices c.args.j c.args.rows.now P m g.stands b c.kept_try.new.find
+    c.kept_try.result
     (try_onward _ (net_table c.args.net.now) c.args.j c.args.rows.now P m g.stands true c.args.choices
     c.in-Some.more (sym c.in-Some.is ∙ c.step.ensures) b _ _ _ _
     (c.choose.ensures P m b (kept_stands c.keep-from.ensures c.args.net.now.setting.all_levels g))
@@ -140,7 +153,8 @@ kept_try-struck_try-requires t c =
           (try_onward T wf c.args.j rows stand.0 stand.1 stand.3.stands true count c.in-Some.more next stand.2
           _ _ _ _ comes w.in-Unsettled.k w.in-Unsettled.is _ _ w.kept_try.ensures)
     ] in
-    let came : Part from mid c.match-choose.words = elim c.match-choose.branch as (λ _. Part from mid c.match-choose.words) [
+    let came : Part from mid c.match-choose.words =
+    elim c.match-choose.branch as (λ _. Part from mid c.match-choose.words) [
       | kept_try-in-Ended w ↦ (c.choose.new.words, c.choose.auto.words, w.words-is)
       | kept_try-in-Unsettled+in_ok-kept-in-Unsettled w ↦
           (w.kept_try.new.words, w.kept_try.auto.words ∙ c.choose.auto.words, w.words-is)
@@ -153,7 +167,8 @@ kept_try-struck_try-requires t c =
       | kept_try-else-fresh w ↦ left_whole mid came.0 (w.words-is ∙ came.2) (omega (arith, w.if-fresh.false))
     ] in
     let kept = c.match-choose.kept in
-    let there = kept_passed T count c.args.j rows stand.0 stand.1 stand.3.stands stand.2 c.match-choose.find (Ok kept) gives kept refl in (
+    let there = kept_passed T count c.args.j rows stand.0 stand.1 stand.3.stands stand.2 c.match-choose.find (Ok kept)
+    gives kept refl in (
       omega (arith, c.decreases),
       (
         omega (arith, left_length keeps came.0 came.1 _ rest, c.requires.words_room),
@@ -180,21 +195,24 @@ kept_try-returns t c P m b g =
     let from = c.keep-from.result in
     let next = sym c.in-Some.is ∙ c.step.ensures in
     let comes = c.choose.ensures P m b (kept_stands keeps all g) in
-    let gives : Gives T count.cap (try_from T true count.cap c.args.j P b count.made) c.match-choose.find (Ok c.match-choose.kept) =
+    let gives : Gives T count.cap (try_from T true count.cap c.args.j P b count.made) c.match-choose.find
+    (Ok c.match-choose.kept) =
     elim c.match-choose.branch as
     (λ _. Gives T count.cap (try_from T true count.cap c.args.j P b count.made) c.match-choose.find
     (Ok c.match-choose.kept)) [
       | kept_try-in-Ended w ↦
           subst₂ (λ f k. Gives T count.cap (try_from T true count.cap c.args.j P b count.made) f (Ok k))
           (sym w.find-is) (sym w.kept-is)
-          (try_ended T wf c.args.j rows P m g.stands true count c.in-Some.more next b _ _ _ _ comes w.in-Ended.best w.in-Ended.is)
+          (try_ended T wf c.args.j rows P m g.stands true count c.in-Some.more next b _ _ _ _ comes w.in-Ended.best
+          w.in-Ended.is)
       | kept_try-in-Unsettled+in_ok-kept-in-Unsettled w ↦
           subst₂ (λ f r. Gives T count.cap (try_from T true count.cap c.args.j P b count.made) f r) (sym w.find-is)
           (w.in_ok-kept-in-Unsettled.was ∙ sym (ap Ok w.kept-is))
           (try_onward T wf c.args.j rows P m g.stands true count c.in-Some.more next b _ _ _ _ comes w.in-Unsettled.k
           w.in-Unsettled.is _ _ w.kept_try.ensures)
     ] in
-    let came : Part from mid c.match-choose.words = elim c.match-choose.branch as (λ _. Part from mid c.match-choose.words) [
+    let came : Part from mid c.match-choose.words =
+    elim c.match-choose.branch as (λ _. Part from mid c.match-choose.words) [
       | kept_try-in-Ended w ↦ (c.choose.new.words, c.choose.auto.words, w.words-is)
       | kept_try-in-Unsettled+in_ok-kept-in-Unsettled w ↦
           (w.kept_try.new.words, w.kept_try.auto.words ∙ c.choose.auto.words, w.words-is)
@@ -215,15 +233,20 @@ kept_try-returns t c P m b g =
 pub struck_try-kept_try-requires : goal.struck_try-kept_try-requires
 struck_try-kept_try-requires t c =
     let stand = c.requires.somewhere in
-    let goes = try_goes _ (net_table c.args.net.now) c.args.j c.args.rows.now stand.0 stand.1 stand.3.stands false c.args.choices
-    c.in-Some.more (sym c.in-Some.is ∙ c.step.ensures) stand.2 _ _ _ _ (c.choose.ensures stand.0 stand.1 stand.2 stand.3)
-    c.in-Unsettled.k c.in-Unsettled.is c.requires.made_le_cap in
-    (omega (arith, goes.0, c.decreases), (omega (arith, c.choose.auto.words, c.requires.words_room), (goes.1, (goes.2, goes.3))))
+    let goes = try_goes _ (net_table c.args.net.now) c.args.j c.args.rows.now stand.0 stand.1 stand.3.stands false
+    c.args.choices
+    c.in-Some.more (sym c.in-Some.is ∙ c.step.ensures) stand.2 _ _ _ _
+    (c.choose.ensures stand.0 stand.1 stand.2 stand.3)
+    c.in-Unsettled.k c.in-Unsettled.is c.requires.made_le_cap in (
+      omega (arith, goes.0, c.decreases),
+      (omega (arith, c.choose.auto.words, c.requires.words_room), (goes.1, (goes.2, goes.3))),
+    )
 
 pub struck_try-returns-in-Ended : goal.struck_try-returns-in-Ended
 struck_try-returns-in-Ended t c P m b g =
     try_ended _ (net_table c.args.net.now) c.args.j c.args.rows.now P m g.stands false c.args.choices
-    c.in-Some.more (sym c.in-Some.is ∙ c.step.ensures) b _ _ _ _ (c.choose.ensures P m b g) c.in-Ended.best c.in-Ended.is
+    c.in-Some.more (sym c.in-Some.is ∙ c.step.ensures) b _ _ _ _ (c.choose.ensures P m b g) c.in-Ended.best
+    c.in-Ended.is
 
 pub struck_try-returns-in-Unsettled : goal.struck_try-returns-in-Unsettled
 struck_try-returns-in-Unsettled t c P m b g =

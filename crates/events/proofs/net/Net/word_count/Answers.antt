@@ -9,4 +9,6 @@ use Rattle.events.proofs.net.Net.word_count.Goals as goal
 pub returns : goal.returns
 returns c =
     let net = c.args.self.now in
-    net.setting.reads.firsts.at 32 (omega arith) ∙ first_last (table_of net.table.bytes.now) 32 (omega (arith, (accepted net.table.bytes.now net.table.passes).table.few_nodes))
+    net.setting.reads.firsts.at 32 (omega arith)
+    ∙ first_last (table_of net.table.bytes.now) 32
+    (omega (arith, (accepted net.table.bytes.now net.table.passes).table.few_nodes))

@@ -9,7 +9,7 @@ use native.Mathlib.Omega.{arith}
 use lib.Dec.{eqb}
 use Rattle.sets.specs.Member.{member, set_of}
 use Rattle.table.specs.Accept.{all}
-use Rattle.ctl.specs.Levels.{below}
+use Rattle.ctl.specs.Range.{below}
 use Rattle.ctl.proofs.Tabulate.{length_tabulate, get_d_tabulate}
 use Rattle.table.proofs.Scan.{all_next}
 use Rattle.label.proofs.rows.KeptRows.is_total.Goals as goal
@@ -30,8 +30,10 @@ returns-then-minus-ne0 c =
     let rows = c.args.self.now.rows in
     let kept = c.args.self.now.kept in
     let s = c.loop-row.row-index in
-    let fails : passes rows kept s ≡ false = ap (λ (k : ℕ). eqb k 0) (sym c.minus.ensures) ∙ ne_eqb c.minus.result 0 c.if-minus-ne0.true in
-    sym (c.loop-row.invariant ∙ next (passes rows kept) s (omega arith) ∙ ap (λ (b : Bool). b && all (passes rows kept) (drop (s + 1) (below 32))) fails)
+    let fails : passes rows kept s ≡ false =
+    ap (λ (k : ℕ). eqb k 0) (sym c.minus.ensures) ∙ ne_eqb c.minus.result 0 c.if-minus-ne0.true in
+    sym (c.loop-row.invariant ∙ next (passes rows kept) s (omega arith)
+    ∙ ap (λ (b : Bool). b && all (passes rows kept) (drop (s + 1) (below 32))) fails)
 
 pub loop-row-preserved : goal.loop-row-preserved
 unfolding passes
@@ -39,11 +41,14 @@ loop-row-preserved c =
     let rows = c.args.self.now.rows in
     let kept = c.args.self.now.kept in
     let s = c.loop-row.row-index in
-    let fits : passes rows kept s ≡ true = ap (λ (k : ℕ). eqb k 0) (sym c.minus.ensures) ∙ eq-eqb c.minus.result 0 c.if-minus-ne0.false in
-    c.loop-row.invariant ∙ next (passes rows kept) s (omega arith) ∙ ap (λ (b : Bool). b && all (passes rows kept) (drop (s + 1) (below 32))) fits
+    let fits : passes rows kept s ≡ true =
+    ap (λ (k : ℕ). eqb k 0) (sym c.minus.ensures) ∙ eq-eqb c.minus.result 0 c.if-minus-ne0.false in
+    c.loop-row.invariant ∙ next (passes rows kept) s (omega arith)
+    ∙ ap (λ (b : Bool). b && all (passes rows kept) (drop (s + 1) (below 32))) fits
 
 pub returns : goal.returns
 unfolding all
 returns c =
-    let at_end : length (below 32) ≤ c.loop-row.row-index = rw (length_tabulate {A = ℕ} 32 (λ s. s)) (omega (arith, c.loop-row-test.false)) in
+    let at_end : length (below 32)
+    ≤ c.loop-row.row-index = rw (length_tabulate {A = ℕ} 32 (λ s. s)) (omega (arith, c.loop-row-test.false)) in
     sym (c.loop-row.invariant ∙ ap (all _) (drop_of_length-le (below 32) {i = c.loop-row.row-index} at_end))

@@ -3,8 +3,8 @@ use native.Mathlib.Omega.{arith}
 use Rattle.table.proofs.Facts.{accepted}
 use Rattle.label.proofs.rows.KeptRows.new.Goals as goal
 
-pub kept_states-requires : goal.kept_states-requires
-kept_states-requires c =
+pub states_with_next-requires : goal.states_with_next-requires
+states_with_next-requires c =
     let t = c.args.table.now in
     omega (arith, c.state_count-states.ensures, (accepted t.bytes.now t.passes).table.few_states)
 
@@ -13,5 +13,5 @@ invariant_of-result c =
     let t = c.args.table.now in
     record {
       few = omega (arith, c.state_count-states.ensures, (accepted t.bytes.now t.passes).table.few_states);
-      kept_are = c.kept_states.ensures;
+      kept_are = c.states_with_next.ensures;
     }

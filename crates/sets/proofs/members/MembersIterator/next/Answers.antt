@@ -18,5 +18,9 @@ returns-clause-goes c =
 pub returns-clause-steps : goal.returns-clause-steps
 returns-clause-steps c =
     let left = c.args.self.now.left in
-    let small : left < 2 ^ 32 = search rules in
-    (next_below left left _ (left_first left small) c.if-self-eq0.false c.lowest-s.ensures, c.if-self-eq0.false, c.lowest-s.ensures, c.remove-self.ensures)
+    let small : left < 2 ^ 32 = search rules in (
+      next_below left left _ (left_first left small) c.if-self-eq0.false c.lowest-s.ensures,
+      c.if-self-eq0.false,
+      c.lowest-s.ensures,
+      c.remove-self.ensures,
+    )

@@ -10,4 +10,5 @@ use Rattle.table.proofs.accepted.Accepted.node.Goals as goal
 pub returns : goal.returns
 returns c =
     let t = c.args.self.now in
-    c.record_at.ensures ∙ ap (λ (l : List ℕ). node_of (drop (record_width * c.args.i) l)) t.nodes_are ∙ node_anywhere t.bytes.now c.args.i
+    c.record_at.ensures ∙ ap (λ (l : List ℕ). node_of (drop (record_width * c.args.i) l)) t.nodes_are
+    ∙ node_anywhere t.bytes.now c.args.i

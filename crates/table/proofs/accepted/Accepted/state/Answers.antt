@@ -10,4 +10,5 @@ use Rattle.table.proofs.accepted.Accepted.state.Goals as goal
 pub returns : goal.returns
 returns c =
     let t = c.args.self.now in
-    c.record_at.ensures ∙ ap (λ (l : List ℕ). state_of (drop (record_width * c.args.s) l)) t.states_are ∙ state_anywhere t.bytes.now c.args.s
+    c.record_at.ensures ∙ ap (λ (l : List ℕ). state_of (drop (record_width * c.args.s) l)) t.states_are
+    ∙ state_anywhere t.bytes.now c.args.s

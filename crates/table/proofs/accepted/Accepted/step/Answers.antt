@@ -10,4 +10,5 @@ use Rattle.table.proofs.accepted.Accepted.step.Goals as goal
 pub returns : goal.returns
 returns c =
     let t = c.args.self.now in
-    c.record_at.ensures ∙ ap (λ (l : List ℕ). step_of (drop (record_width * c.args.j) l)) t.steps_are ∙ step_anywhere t.bytes.now c.args.j
+    c.record_at.ensures ∙ ap (λ (l : List ℕ). step_of (drop (record_width * c.args.j) l)) t.steps_are
+    ∙ step_anywhere t.bytes.now c.args.j

@@ -1,4 +1,5 @@
--- `try_from` meets its contract: the verdict on the bytes is the first refusal of their sections. The bytes are bytes, and so is a price.
+-- `try_from` meets its contract: the verdict on the bytes is the first refusal of their sections. The bytes are
+-- bytes, and so is a price.
 use Prim.Native.Nat.{ℕ}
 use mathlib.Core.Path.{◌≡◌, refl, sym, ap, subst, ◌∙◌}
 use mathlib.Core.List.{List}
@@ -86,7 +87,8 @@ returns-in_err-check_nodes c =
     c.step_section-steps.ensures c.node_section-nodes.ensures in
     let first = sym c.check_states.ensures ∙ c.in_ok-check_states.was in
     let second = sym c.check_steps.ensures ∙ c.in_ok-check_steps.was in
-    refused _ _ gives (read ∙ then_next _ _ first ∙ then_next _ _ second ∙ sym c.check_nodes.ensures ∙ c.in_err-check_nodes.was)
+    refused _ _ gives (read ∙ then_next _ _ first ∙ then_next _ _ second ∙ sym c.check_nodes.ensures
+    ∙ c.in_err-check_nodes.was)
 
 pub invariant_of-result-clause-passes : goal.invariant_of-result-clause-passes
 invariant_of-result-clause-passes c =
