@@ -715,6 +715,270 @@ static void repair_refusals(void)
     step_given_twice();
 }
 
+/* How many entries of each buffer are lent for a parcel, and what is to be in them. */
+struct parcel_room {
+    size_t lists, bytes, words, answers;
+};
+
+struct parcelled {
+    unsigned number;
+    const fitter_answer *answers;
+    size_t tables;
+    uint64_t left;
+    const uint8_t *lists;
+    size_t lists_len, variables;
+};
+
+static struct parcelled parcel_refused(unsigned number)
+{
+    struct parcelled wanted = {number, NULL, 0, 0, NULL, 0, 0};
+    return wanted;
+}
+
+static fitter_answer answer(unsigned number, uint64_t choices, uint32_t price, uint32_t settled)
+{
+    fitter_answer one = {choices, number, price, settled};
+    return one;
+}
+
+/* The first answers are these, and of the others every byte is as it was. */
+static void expect_answers(const char *what, const fitter_answer *got, size_t room, const fitter_answer *wanted,
+                           size_t count)
+{
+    for (size_t k = 0; k < count; k++) {
+        expect(what, got[k].choices == wanted[k].choices, 1);
+        expect(what, got[k].number, wanted[k].number);
+        expect(what, got[k].price, wanted[k].price);
+        expect(what, got[k].settled, wanted[k].settled);
+    }
+    if (count < room)
+        expect_bytes(what, (const uint8_t *)(got + count), (room - count) * sizeof *got, NULL, 0);
+}
+
+/* A parcel: the number, the answers, how many tables there are, the allowance left, and every entry of the buffers. A
+ * list that is not written is LENT in what is wanted. */
+static void parcel(const char *what, const uint8_t *tables, size_t tables_len, uint64_t cap, struct parcel_room room,
+                   struct parcelled wanted)
+{
+    uint8_t *lists = lend(room.lists), *bytes = lend(room.bytes);
+    uint32_t *words = lend(room.words * sizeof *words), *count = lend(sizeof *count);
+    fitter_answer *answers = lend(room.answers * sizeof *answers);
+    uint64_t *left = lend(sizeof *left);
+    const uint8_t *copy = lend_copy(tables, tables_len);
+    unsigned number = fitter_parcel(copy, tables_len, cap, lists, room.lists, bytes, room.bytes, words, room.words,
+                                    answers, room.answers, count, left);
+    struct room work = {0, room.bytes, room.words};
+    expect(what, number, wanted.number);
+    expect(what, *count, wanted.number == 0 ? (uint32_t)wanted.tables : LENT32);
+    expect(what, *left == (wanted.number == 0 ? wanted.left : LENT64), 1);
+    expect_answers(what, answers, room.answers, wanted.answers, wanted.tables);
+    expect_bytes(what, lists, room.lists, wanted.lists, wanted.lists_len);
+    expect_zeros(what, bytes, words, work, wanted.variables);
+    take_back();
+}
+
+/* With as much room as needed, with more, and with one entry too few of each buffer. */
+static void parcels_at(const char *what, const uint8_t *tables, size_t tables_len, uint64_t cap,
+                       struct parcelled wanted)
+{
+    size_t e = wanted.lists_len, v = wanted.variables, k = wanted.tables;
+    struct parcel_room needed = {e, v, v, k}, more = {e + 9, v + 9, v + 9, k + 3};
+    struct parcel_room lists = {e - 1, v, v, k}, bytes = {e, v - 1, v, k}, words = {e, v, v - 1, k};
+    struct parcel_room answers = {e, v, v, k - 1};
+    parcel(what, tables, tables_len, cap, needed, wanted);
+    parcel(what, tables, tables_len, cap, more, wanted);
+    if (e > 0)
+        parcel(what, tables, tables_len, cap, lists, parcel_refused(10));
+    parcel(what, tables, tables_len, cap, bytes, parcel_refused(10));
+    parcel(what, tables, tables_len, cap, words, parcel_refused(10));
+    parcel(what, tables, tables_len, cap, answers, parcel_refused(10));
+}
+
+/* The sample so many times, end to end. */
+static size_t put_samples(uint8_t *tables, size_t count)
+{
+    for (size_t k = 0; k < count; k++)
+        memcpy(tables + k * SAMPLE, sample, SAMPLE);
+    return count * SAMPLE;
+}
+
+/* Each sample needs 6 choices; from where the allowance does not reach for one on, the answers are spent, and the lists
+ * as they were. Nine are too many. */
+static void sample_parcels(void)
+{
+    static const uint8_t cut[4] = {1, 1, 0, 0};
+    uint8_t tables[9 * SAMPLE];
+    for (size_t count = 1; count <= 8; count++) {
+        size_t len = put_samples(tables, count);
+        for (uint64_t cap = 0; cap <= 6 * count + 1; cap++) {
+            fitter_answer answers[8];
+            uint8_t lists[32];
+            uint64_t left = cap;
+            memset(lists, LENT, sizeof lists);
+            for (size_t k = 0; k < count; k++) {
+                answers[k] = left < 6 ? answer(15, left, 0, 1) : answer(0, 6, 3, 1);
+                if (left >= 6)
+                    memcpy(lists + 4 * k, cut, 4);
+                left -= answers[k].choices;
+            }
+            struct parcelled wanted = {0, answers, count, left, lists, 4 * count, 100};
+            parcels_at("a parcel of samples", tables, len, cap, wanted);
+        }
+    }
+    const fitter_answer twice[2] = {answer(0, 6, 3, 1), answer(0, 6, 3, 1)};
+    static const uint8_t two[8] = {1, 1, 0, 0, 1, 1, 0, 0};
+    struct parcelled greatest = {0, twice, 2, UINT64_MAX - 12, two, 8, 100};
+    parcels_at("a parcel of two samples, greatest cap", tables, put_samples(tables, 2), UINT64_MAX, greatest);
+    struct parcel_room all = {ROOM, ROOM, ROOM, 9}, none = {0, 0, 0, 0};
+    size_t len = put_samples(tables, 9);
+    parcel("a parcel of nine samples", tables, len, UINT64_MAX, all, parcel_refused(17));
+    parcel("a parcel of nine samples, nothing lent", tables, len, UINT64_MAX, none, parcel_refused(17));
+}
+
+/* A table, its V, the list that Repair writes, and what it answers with enough choices. With fewer choices than this
+ * answer has it is spent. */
+struct part {
+    const uint8_t *table;
+    size_t table_len, variables;
+    const uint8_t *list;
+    fitter_answer enough;
+};
+
+/* Any three of four tables: found without a choice or with six, none without or with two. A table behind one that is
+ * spent is tried with no choice, and may be found or none all the same. The largest V may be anywhere. */
+static void mixed_parcels(void)
+{
+    static const uint8_t one_way[19] = {2, 2, 1, 0, 1, 0, 0, 0, 0, 0, 0, 1, 5, 1, 1, 5, 1, 0, 0};
+    static const uint8_t dead_end[16] = {2, 1, 1, 0, 1, 0, 0, 0, 0, 0, 0, 1, 9, 1, 0, 0};
+    static const uint8_t undecided[43] = {
+        3, 4, 6, 1,
+        1, 0, 0, 0, 1, 0, 0, 0, 0,
+        0, 1, 1, 0, 0, 1, 1, 1, 1, 0, 2, 1,
+        2, 0, 0, 7, 0, 0, 3, 1, 0, 4, 1, 2, 4, 2, 1, 5, 3, 4,
+    };
+    static const uint8_t both[2] = {1, 1}, cut[4] = {1, 1, 0, 0};
+    const struct part parts[4] = {
+        {one_way, 19, 6, both, answer(0, 0, 0, 2)},
+        {dead_end, 16, 5, NULL, answer(14, 0, 0, 0)},
+        {undecided, 43, 29, NULL, answer(14, 2, 0, 1)},
+        {sample, SAMPLE, 100, cut, answer(0, 6, 3, 1)},
+    };
+    for (unsigned which = 0; which < 64; which++)
+        for (uint64_t cap = 0; cap < 20; cap++) {
+            fitter_answer answers[3];
+            uint8_t tables[3 * 43], lists[3 * 4];
+            struct parcelled wanted = {0, answers, 3, cap, lists, 0, 0};
+            size_t len = 0;
+            memset(lists, LENT, sizeof lists);
+            for (unsigned k = 0; k < 3; k++) {
+                const struct part *part = &parts[which >> 2 * k & 3];
+                const fitter_answer *enough = &part->enough;
+                memcpy(tables + len, part->table, part->table_len);
+                len += part->table_len;
+                answers[k] = wanted.left < enough->choices ? answer(15, wanted.left, 0, enough->settled) : *enough;
+                if (answers[k].number == 0)
+                    memcpy(lists + wanted.lists_len, part->list, part->table[1]);
+                wanted.lists_len += part->table[1];
+                wanted.left -= answers[k].choices;
+                if (part->variables > wanted.variables)
+                    wanted.variables = part->variables;
+            }
+            parcels_at("a parcel of different tables", tables, len, cap, wanted);
+        }
+}
+
+/* 17 comes before 10, and where no 17 comes the buffers, of no entries, are too short. */
+static void parcel_number(const char *what, const uint8_t *tables, size_t tables_len, int accepted)
+{
+    struct parcel_room none = {0, 0, 0, 0}, all = {ROOM, ROOM, ROOM, 9};
+    parcel(what, tables, tables_len, UINT64_MAX, none, parcel_refused(accepted ? 10 : 17));
+    if (!accepted)
+        parcel(what, tables, tables_len, 1000, all, parcel_refused(17));
+}
+
+static void parcel_refusals(void)
+{
+    uint8_t tables[2 * SAMPLE + 4] = {0};
+    put_samples(tables, 2);
+    parcel_number("an empty parcel", NULL, 0, 0);
+    /* every part of two samples, and a tail */
+    for (size_t len = 1; len <= sizeof tables; len++)
+        parcel_number("a part of a parcel", tables, len, len == SAMPLE || len == 2 * SAMPLE);
+    /* any byte behind the counts n, e and f changed, in the first table or the second */
+    for (size_t at = 3; at < 2 * SAMPLE; at++)
+        for (unsigned value = 0; value < 256 && at % SAMPLE >= 3; value++) {
+            uint8_t changed[2 * SAMPLE], table[SAMPLE];
+            static const uint8_t list[4] = {1, 1, 0, 0};
+            memcpy(changed, tables, sizeof changed);
+            changed[at] = (uint8_t)value;
+            change(table, at % SAMPLE, value);
+            unsigned number = judge(table, SAMPLE, list, 4);
+            parcel_number("a parcel with a byte changed", changed, sizeof changed, number < 2 || number > 8);
+        }
+}
+
+/* No list where there is no step, and nothing at all for what is refused. */
+static void parcel_no_buffers(void)
+{
+    static const uint8_t no_steps[20] = {1, 0, 1, 0, 1, 0, 0, 1, 0, 0, 1, 0, 1, 0, 1, 0, 0, 1, 0, 0};
+    uint32_t count = LENT32, words[2] = {LENT32, LENT32};
+    uint64_t left = LENT64;
+    uint8_t bytes[2] = {LENT, LENT};
+    fitter_answer answers[2];
+    const fitter_answer none[2] = {answer(14, 0, 0, 0), answer(14, 0, 0, 0)};
+    struct room two = {0, 2, 2};
+    expect("nothing at all", fitter_parcel(NULL, 0, 9, NULL, 0, NULL, 0, NULL, 0, NULL, 0, &count, &left), 17);
+    expect("no buffers", fitter_parcel(no_steps, 20, 9, NULL, 0, NULL, 0, NULL, 0, NULL, 0, &count, &left), 10);
+    expect("no buffers: tables", count, LENT32);
+    expect("no buffers: left", left == LENT64, 1);
+    expect("no lists", fitter_parcel(no_steps, 20, 9, NULL, 0, bytes, 2, words, 2, answers, 2, &count, &left), 0);
+    expect("no lists: tables", count, 2);
+    expect("no lists: left", left == 9, 1);
+    expect_answers("no lists: answers", answers, 2, none, 2);
+    expect_zeros("no lists: buffers", bytes, words, two, 2);
+}
+
+/* The layout that fitter.h says. */
+static void answer_layout(void)
+{
+    expect("size of an answer", sizeof(fitter_answer), 24);
+    expect("place of the choices", offsetof(fitter_answer, choices), 0);
+    expect("place of the number", offsetof(fitter_answer, number), 8);
+    expect("place of the price", offsetof(fitter_answer, price), 12);
+    expect("place of the settled steps", offsetof(fitter_answer, settled), 16);
+}
+
+/* The largest table eight times, 256 choices each. */
+static void largest_parcel(void)
+{
+    static uint8_t tables[9 * LARGEST], lists[8 * 128];
+    fitter_answer answers[8];
+    for (size_t k = 0; k < 9; k++)
+        largest(tables + k * LARGEST);
+    for (size_t k = 0; k < 8; k++) {
+        answers[k] = answer(0, 256, 0, 0);
+        for (unsigned j = 0; j < 128; j++)
+            lists[128 * k + j] = j % 32 < 4;
+    }
+    struct parcelled wanted = {0, answers, 8, 0, lists, sizeof lists, VARIABLES};
+    parcels_at("eight largest tables", tables, 8 * LARGEST, 2048, wanted);
+    struct parcel_room more = {2000, VARIABLES, VARIABLES, 12};
+    parcel("nine largest tables", tables, 9 * LARGEST, 2048, more, parcel_refused(17));
+    answers[7] = answer(15, 255, 0, 0);
+    memset(lists + 7 * 128, LENT, 128);
+    parcel("eight largest tables, cap 2047", tables, 8 * LARGEST, 2047, more, wanted);
+}
+
+static void parcels(void)
+{
+    answer_layout();
+    sample_parcels();
+    mixed_parcels();
+    parcel_refusals();
+    parcel_no_buffers();
+    largest_parcel();
+}
+
 static void all_calls(void)
 {
     sheets();
@@ -726,6 +990,7 @@ static void all_calls(void)
     largest_calls();
     repair_refusals();
     any_byte_changed();
+    parcels();
 }
 
 int main(void)

@@ -1,4 +1,4 @@
-// Compares all five calls of the library with a second implementation, written from the specification, on drawn and
+// Compares all six calls of the library with a second implementation, written from the specification, on drawn and
 // damaged input, for some seconds.
 // Arguments: seed (1), seconds (10). Prints how many calls agree, by kind and number; at the first difference its
 // input, and ends with 1.
@@ -20,6 +20,10 @@ mod draw;
 mod lent;
 #[path = "outside/meaning.rs"]
 mod meaning;
+#[path = "outside/parcel.rs"]
+mod parcel;
+#[path = "outside/parcelling.rs"]
+mod parcelling;
 #[path = "outside/random.rs"]
 mod random;
 #[path = "outside/repairing.rs"]
@@ -122,7 +126,7 @@ fn round(calls: &mut Calls, random: &mut Random) -> Result<(), String> {
         damage::bytes(random, &mut bytes);
         any_table(calls, random, &bytes)?;
     }
-    Ok(())
+    parcelling::compare(calls, random)
 }
 
 fn report(calls: &Calls) {
@@ -138,7 +142,7 @@ fn main() {
     let seed = arguments.first().copied().unwrap_or(1);
     let time = Duration::from_secs(arguments.get(1).copied().unwrap_or(10));
     let start = Instant::now();
-    let mut calls = Calls { agreed: [[0; NUMBERS]; 5] };
+    let mut calls = Calls { agreed: [[0; NUMBERS]; NAMES.len()] };
     let mut rounds = 0;
     while start.elapsed() < time {
         let compared = round(&mut calls, &mut Random::new(seed, rounds));

@@ -6,10 +6,13 @@
 // A line: the table; the number of its refusal, or 0; how many variables its net has; the cap; the answer at this cap
 // (found, none, spent or refused); the choices made; the list that is written, and the list before striking; the price;
 // the settled steps. What is not given is `-`: both lists where none is found, and all numbers of a refused table.
+mod before;
 mod clauses;
 mod fitter;
 mod striking;
 mod vectors;
+
+use before::{bytes_before, list_before, words_before, GUARD};
 
 struct Vector {
     table: Vec<u8>,
@@ -51,21 +54,6 @@ fn vector(columns: &[String]) -> Option<Vector> {
         list: vectors::bytes(list),
         before: vectors::bytes(before),
     })
-}
-
-const GUARD: usize = 2;
-
-// What the buffers hold before a call: nothing that a call would write, and a different value at each place.
-fn list_before(room: usize) -> Vec<u8> {
-    (0..room + 2 * GUARD).map(|i| 2 + (i % 254) as u8).collect()
-}
-
-fn bytes_before(room: usize) -> Vec<u8> {
-    (0..room + 2 * GUARD).map(|i| 1 + (i % 255) as u8).collect()
-}
-
-fn words_before(room: usize) -> Vec<u32> {
-    (0..room + 2 * GUARD).map(|i| 0xA5A50001 + 2 * i as u32).collect()
 }
 
 // How many entries of each buffer are lent.

@@ -73,9 +73,46 @@ fn repair(table: &[u8], cap: u64) -> String {
     }
 }
 
-fn call(table: &[u8], what: &str) -> String {
+// An answer of a batch with its numbers, or what C gets for it.
+fn batch_answer(a: &fitter::Answer) -> String {
+    let word = match a.number {
+        0 => "found",
+        14 => "none",
+        15 => "spent",
+        _ => "refused",
+    };
+    format!("{word} {} {} {}", a.choices, a.price, a.settled)
+}
+
+// The cap, and the names of the tables; a name that the page does not have stands for a byte alone.
+fn batch(tables: &HashMap<String, Vec<u8>>, what: &str) -> String {
+    let mut words = what.split_whitespace();
+    let cap = words.next().expect("a cap").parse().expect("a number");
+    let parcel: Vec<u8> = words.flat_map(|name| tables.get(name).cloned().unwrap_or(vec![0])).collect();
+    let (mut lists, mut bytes, mut work) = ([GUARD; 64], [GUARD; 1000], [7; 1000]);
+    let none = fitter::Answer { choices: 0, number: 0, price: 0, settled: 0 };
+    let mut answers = [none; 8];
+    let (mut count, mut left) = (0, 0);
+    let number =
+        fitter::parcel(&parcel, cap, &mut lists, &mut bytes, &mut work, &mut answers, &mut count, &mut left);
+    if number != 0 {
+        return number.to_string();
+    }
+    let said: Vec<String> = answers[..count as usize].iter().map(batch_answer).collect();
+    let mut steps = 0;
+    let mut rest = &parcel[..];
+    while let [n, e, f, ..] = *rest {
+        steps += e as usize;
+        rest = &rest[4 + 3 * (n as usize + e as usize + f as usize)..];
+    }
+    let bits = lists[..steps].iter().map(|&b| if b == GUARD { "-".to_string() } else { b.to_string() });
+    format!("0: {}, left {left}, lists {}", said.join(", "), bits.collect::<Vec<_>>().join(" "))
+}
+
+fn call(tables: &HashMap<String, Vec<u8>>, table: &[u8], what: &str) -> String {
     let (name, rest) = what.split_once(' ').expect("a call");
     match name {
+        "batch" => batch(tables, rest),
         "judge" => fitter::judge(table, &numbers::<u8>(rest)).to_string(),
         "label" => label(table, &numbers::<u8>(rest)),
         "holding" => holding(table, &numbers::<u8>(rest)),
@@ -137,7 +174,8 @@ impl Page {
             "calls" => {
                 for line in block.text.lines() {
                     let (what, wanted) = line.split_once(" = ").expect("what a call answers");
-                    self.compare(line, &call(&table, what), wanted);
+                    let got = call(&self.tables, &table, what);
+                    self.compare(line, &got, wanted);
                 }
             }
             "refused" => {

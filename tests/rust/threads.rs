@@ -1,11 +1,12 @@
-// Makes all five calls from several threads at once, each on tables and texts of its own, and compares with the answers
+// Makes all six calls from several threads at once, each on tables and texts of its own, and compares with the answers
 // of one thread. Arguments: a file of tables, a file of sheets, and how many tables there are.
 //
 // Of a line of the tables it takes the table, how many variables its net has, and the cap, and of a line of the sheets
-// the text. What they answer is not looked at here.
+// the text. A parcel has the table of a line and that of the next. What they answer is not looked at here.
 mod fitter;
 mod vectors;
 
+use fitter::Answer;
 use std::sync::Barrier;
 
 const THREADS: usize = 8;
@@ -20,9 +21,13 @@ struct Case {
     variables: usize,
     cap: u64,
     text: Vec<u8>,
+    parcel: Vec<u8>,
+    // how many entries its lists and its work buffers have
+    lists: usize,
+    largest: usize,
 }
 
-// What the five calls answer, with all of their buffers.
+// What the six calls answer, with all of their buffers.
 #[derive(PartialEq)]
 struct Answers {
     judge: u32,
@@ -30,6 +35,7 @@ struct Answers {
     holding: (u32, Vec<u8>, u32),
     repair: (u32, Vec<u8>, Vec<u8>, Vec<u32>, u64, u32, u32),
     read: (u32, Vec<u8>, u64),
+    parcel: (u32, Vec<u8>, Vec<u8>, Vec<u32>, Vec<Answer>, u32, u64),
 }
 
 fn label(c: &Case) -> (u32, Vec<u32>) {
@@ -55,6 +61,15 @@ fn read(c: &Case) -> (u32, Vec<u8>, u64) {
     (fitter::read(&c.text, &mut out, &mut length), out, length)
 }
 
+fn parcel(c: &Case) -> (u32, Vec<u8>, Vec<u8>, Vec<u32>, Vec<Answer>, u32, u64) {
+    let (mut lists, mut bytes, mut words) = (vec![7; c.lists], vec![7; c.largest], vec![7; c.largest]);
+    let mut answers = vec![Answer { choices: 7, number: 7, price: 7, settled: 7 }; 2];
+    let (mut tables, mut left) = (7, 7);
+    let number =
+        fitter::parcel(&c.parcel, c.cap, &mut lists, &mut bytes, &mut words, &mut answers, &mut tables, &mut left);
+    (number, lists, bytes, words, answers, tables, left)
+}
+
 fn answers(c: &Case) -> Answers {
     Answers {
         judge: fitter::judge(&c.table, &c.list),
@@ -62,21 +77,32 @@ fn answers(c: &Case) -> Answers {
         holding: holding(c),
         repair: repair(c),
         read: read(c),
+        parcel: parcel(c),
     }
 }
 
-// A line of tables.tsv, with a line of sheets.tsv. The list keeps every step.
-fn case(line: &[String], sheet: &[String]) -> Case {
-    let (table, text) = (vectors::bytes(&line[0]), vectors::bytes(&sheet[0]));
-    let steps = table.get(1).copied().unwrap_or(0) as usize;
-    let cap = line[3].parse().unwrap_or(0).min(MOST_CHOICES);
-    Case { table, list: vec![1; steps], variables: line[2].parse().unwrap_or(0), cap, text }
+// A line of tables.tsv and the next one, with a line of sheets.tsv. The list keeps every step.
+fn case(line: &[String], next: &[String], sheet: &[String]) -> Case {
+    let (table, other, text) = (vectors::bytes(&line[0]), vectors::bytes(&next[0]), vectors::bytes(&sheet[0]));
+    let steps = |table: &[u8]| table.get(1).copied().unwrap_or(0) as usize;
+    let variables = |line: &[String]| line[2].parse().unwrap_or(0);
+    Case {
+        list: vec![1; steps(&table)],
+        variables: variables(line),
+        cap: line[3].parse().unwrap_or(0).min(MOST_CHOICES),
+        text,
+        parcel: [&table[..], &other].concat(),
+        lists: steps(&table) + steps(&other),
+        largest: variables(line).max(variables(next)),
+        table,
+    }
 }
 
 fn cases() -> Vec<Case> {
     let paths: Vec<String> = std::env::args().skip(1).collect();
     let (tables, sheets) = (vectors::read(&paths[0]), vectors::read(&paths[1]));
-    tables.iter().zip(sheets.iter().cycle()).map(|(line, sheet)| case(line, sheet)).collect()
+    let next = tables.iter().cycle().skip(1);
+    tables.iter().zip(next).zip(sheets.iter().cycle()).map(|((line, next), sheet)| case(line, next, sheet)).collect()
 }
 
 // How many cases of a thread's own differ, over all rounds.

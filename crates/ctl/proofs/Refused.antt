@@ -23,6 +23,7 @@ use Rattle.table.specs.declared.refusal.Refusal.TheVariants.{
   NoInitialKept,
   RootFails,
   UnreachedStep,
+  NotTables,
 }
 use Rattle.table.specs.Verdict.{Verdict, require, ◌then◌}
 use Rattle.table.specs.Table.{Table, table_of}
@@ -89,6 +90,7 @@ module _ (table list : List ℕ) where
   of_table NoInitialKept x = absurd x
   of_table RootFails x = absurd x
   of_table UnreachedStep x = absurd x
+  of_table NotTables x = absurd x
 
   -- of a table and a list of its form
   narrow_refused : IsTable table → IsList T list → (r : Refusal) → narrow_tests T list ≡ Err r → P r

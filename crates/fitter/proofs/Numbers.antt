@@ -22,6 +22,7 @@ use Rattle.table.specs.declared.refusal.Refusal.TheVariants.{
   NoInitialKept,
   RootFails,
   UnreachedStep,
+  NotTables,
 }
 use Rattle.table.specs.Verdict.{refusal_number}
 use Rattle.search.specs.declared.answer.Answer.{Answer}
@@ -49,6 +50,7 @@ refusals =
     ∷ nothing
     ∷ nothing
     ∷ some UnreachedStep
+    ∷ some NotTables
     ∷ []
 
 abbrev refusal_of : ℕ → Option Refusal
@@ -69,6 +71,7 @@ found_again NotTotal = refl
 found_again NoInitialKept = refl
 found_again RootFails = refl
 found_again UnreachedStep = refl
+found_again NotTables = refl
 
 pub distinct : (q r : Refusal) → refusal_number q ≡ refusal_number r → q ≡ r
 distinct q r e = let both : some q ≡ some r = sym (found_again q) ∙ ap refusal_of e ∙ found_again r in cc

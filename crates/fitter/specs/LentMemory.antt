@@ -20,6 +20,9 @@ use Rattle.reader.specs.Exact.{Readable, ReadRefused, ReadIsExact}
 use Rattle.reader.specs.Read.{read_answer, read_buffer}
 use Rattle.search.specs.declared.answer.Answer.{Answer}
 use Rattle.search.specs.Answer.{IsFound, IfFound, IfRefused}
+use Rattle.batch.specs.declared.BatchEnd.{BatchEnd}
+use Rattle.batch.specs.Effect.{batch_end, batch_lists, batch_bytes, batch_words, batch_answers}
+use Rattle.batch.specs.Right.{BatchTaken, BatchRefused, BatchIsRight}
 use Rattle.repair.specs.Effect.{repair_answer, repair_list, repair_bytes, repair_words}
 use Rattle.repair.specs.Refused.{RepairRefused}
 use Rattle.repair.specs.Right.{LongEnough, FoundList}
@@ -71,6 +74,16 @@ pub record ReadLeaves (text : List ℕ) (answer : Result ℕ Refusal) (before af
   pub answered : IsOk answer ↔ Readable text (length before)
   pub written : IfOk answer (λ k. ReadIsExact text k before after)
 
+-- Several tables end to end, with their lists, two work buffers and answers
+module _ (bytes : List ℕ) (cap : ℕ) (result : Result BatchEnd Refusal) (lists work words : List ℕ) (answers : List Answer)
+    (lists' work' words' : List ℕ) (answers' : List Answer) where
+  pub record BatchLeaves : Type 0 where
+    pub refused : IfErr result (BatchRefused bytes (length lists) (length work) (length words) (length answers))
+    pub untouched : OnErr result ((lists' ≡ lists) × ((work' ≡ work) × ((words' ≡ words) × (answers' ≡ answers))))
+    pub answered : IsOk result ↔ BatchTaken bytes (length lists) (length work) (length words) (length answers)
+    pub written : IfOk result (λ end. BatchIsRight bytes cap end.tables end.left answers answers' lists lists' work work'
+        words words')
+
 pub record LentMemory : Type 0 where
   pub repair : (table : List ℕ) (cap : ℕ) (list bytes words : List ℕ)
       → RepairLeaves table cap (repair_answer table cap list bytes words) list bytes words
@@ -82,5 +95,9 @@ pub record LentMemory : Type 0 where
   pub holding : (table list buffer : List ℕ)
       → HoldingLeaves table list (holding_answer table list (length buffer)) buffer (holding_buffer table list buffer)
   pub read : (text buffer : List ℕ) → ReadLeaves text (read_answer text buffer) buffer (read_buffer text buffer)
+  pub batch : (bytes : List ℕ) (cap : ℕ) (lists work words : List ℕ) (answers : List Answer)
+      → BatchLeaves bytes cap (batch_end bytes cap lists work words answers) lists work words answers
+      (batch_lists bytes cap lists work words answers) (batch_bytes bytes cap lists work words answers)
+      (batch_words bytes cap lists work words answers) (batch_answers bytes cap lists work words answers)
   -- to C each answer is a number
   pub numbers : NumbersTell

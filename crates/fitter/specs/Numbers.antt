@@ -16,6 +16,7 @@ use Rattle.table.specs.declared.refusal.Refusal.TheVariants.{
   NoInitialKept,
   RootFails,
   UnreachedStep,
+  NotTables,
 }
 use Rattle.table.specs.Verdict.{refusal_number}
 use Rattle.search.specs.declared.answer.Answer.{Answer}
@@ -39,9 +40,10 @@ pub record NumbersTell : Type 0 where
       ∷ NoInitialKept
       ∷ RootFails
       ∷ UnreachedStep
+      ∷ NotTables
       ∷ []
       )
-      ≡ 1 ∷ 2 ∷ 3 ∷ 4 ∷ 5 ∷ 6 ∷ 7 ∷ 8 ∷ 9 ∷ 10 ∷ 11 ∷ 12 ∷ 13 ∷ 16 ∷ []
+      ≡ 1 ∷ 2 ∷ 3 ∷ 4 ∷ 5 ∷ 6 ∷ 7 ∷ 8 ∷ 9 ∷ 10 ∷ 11 ∷ 12 ∷ 13 ∷ 16 ∷ 17 ∷ []
   -- no two refusals have the same number, and none has 0, which says that nothing is refused
   pub distinct : (q r : Refusal) → refusal_number q ≡ refusal_number r → q ≡ r
   pub not_zero : (r : Refusal) → ¬ (refusal_number r ≡ 0)

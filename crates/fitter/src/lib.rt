@@ -5,6 +5,7 @@
 
 mod promises;
 
+pub use batch::{BatchEnd, MOST_TABLES, repair_batch};
 pub use judge::judge_list;
 pub use label::{holding_states, label_nodes};
 pub use promises::{labels_mean_ctl, lent_memory, repairer_and_judge};

@@ -63,6 +63,31 @@ uint32_t fitter_holding(const uint8_t *table, size_t table_len,
 uint32_t fitter_read(const uint8_t *text, size_t text_len,
                      uint8_t *out, size_t out_len, uint64_t *length);
 
+/* What Repair answers for one table of several. `number` is 0 where a repair is found, 14 where there is none, 15 where
+ * the allowance was spent; `price` is 0 with 14 and 15. */
+typedef struct {
+    uint64_t choices;
+    uint32_t number;
+    uint32_t price;
+    uint32_t settled;
+} fitter_answer;
+
+/* Repairs one to eight packed tables that stand end to end, each as long as its own counts say, under one allowance of
+ * choices: the first table under `cap`, each further one under what those before it have left. Each answer and list is
+ * that of fitter_repair alone under what is then left; a table after a spent one is tried with none left.
+ * 0, an answer for each table in `answers`, their number in `tables`, and in `left` what is left of the cap: all
+ * choices and `left` add up to `cap`. The lists stand end to end in `lists`, a byte for each step of each table; a
+ * table without a list leaves its part as it was. The first V entries of `bytes` and `words` are 0 afterwards, V that
+ * of the table which has most. All other entries stay. 17 where the bytes are not one to eight accepted tables end to
+ * end; else 10 where a buffer is too short: `lists` needs a byte for each step of all tables, `bytes` and `words` V
+ * entries, `answers` an entry for each table. Then nothing is stored or written. */
+uint32_t fitter_parcel(const uint8_t *parcel, size_t parcel_len, uint64_t cap,
+                       uint8_t *lists, size_t lists_len,
+                       uint8_t *bytes, size_t bytes_len,
+                       uint32_t *words, size_t words_len,
+                       fitter_answer *answers, size_t answers_len,
+                       uint32_t *tables, uint64_t *left);
+
 #ifdef __cplusplus
 }
 #endif

@@ -1,2 +1,3 @@
 -- What is promised.
 pub mod Exports
+pub mod Answers

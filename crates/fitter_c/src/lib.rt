@@ -4,8 +4,13 @@
 #![tactic(auto)]
 
 mod store;
+mod table_answer;
 
 ghost use Rattle.std.specs.Prelude.{◌≡◌, ◌↔◌, length};
+ghost use Rattle.batch.specs.Effect.{batch_in, room_verdict, end_of, on_tables, lists_after};
+ghost use Rattle.batch.specs.Batch.{most_variables};
+ghost use Rattle.repair.specs.Effect.{cleared};
+ghost use Rattle.fitter_c.specs.Answers.{answers_for_c, tables_for_c, left_for_c};
 ghost use Rattle.table.specs.Facts.{IsTable};
 ghost use Rattle.table.specs.Table.{table_of};
 ghost use Rattle.table.specs.Verdict.{verdict_number};
@@ -18,7 +23,9 @@ ghost use Rattle.repair.specs.Right.{LongEnough, RepairIsRight};
 ghost use Rattle.repair.specs.Effect.{repair_answer, repair_list, repair_bytes, repair_words};
 ghost use Rattle.fitter_c.specs.Exports.{holding_count, read_length, repair_choices, repair_price, repair_settled};
 
+use fitter::{Answer, MOST_TABLES};
 use store::{store_answer, store_count};
+use table_answer::{TableAnswer, store_answers};
 
 /// 0 found, 14 none or 15 spent, and the choices, the price and the settled steps stored; or the refusal's number and
 /// nothing stored or written.
@@ -91,4 +98,44 @@ pub extern "C" fn fitter_read(text: &[u8], out: &mut [u8], length: &mut u64) -> 
     ensures length_after { length.new ≡ read_length (read_answer text.now out.old) length.old }
 {
     store_count(fitter::read(text, out).map(|k| k as u64), length)
+}
+
+// 0, an answer and a list for each table of the parcel, their number and what is left of the cap; or the refusal's
+// number, and nothing stored or written.
+#[unsafe(no_mangle)]
+pub extern "C" fn fitter_parcel(
+    parcel: &[u8],
+    cap: u64,
+    lists: &mut [u8],
+    bytes: &mut [u8],
+    words: &mut [u32],
+    answers: &mut [TableAnswer],
+    tables: &mut u32,
+    left: &mut u64,
+) -> u32
+    ensures value { result ≡ verdict_number (room_verdict (batch_in parcel.now) (length lists.old) (length bytes.old) (length words.old) (length answers.old)) }
+    ensures lists_after { lists.new ≡ on_tables (room_verdict (batch_in parcel.now) (length lists.old) (length bytes.old) (length words.old) (length answers.old))
+        (λ ts. lists_after ts cap lists.old) lists.old }
+    ensures bytes_after { bytes.new ≡ on_tables (room_verdict (batch_in parcel.now) (length lists.old) (length bytes.old) (length words.old) (length answers.old))
+        (λ ts. cleared (most_variables ts) bytes.old) bytes.old }
+    ensures words_after { words.new ≡ on_tables (room_verdict (batch_in parcel.now) (length lists.old) (length bytes.old) (length words.old) (length answers.old))
+        (λ ts. cleared (most_variables ts) words.old) words.old }
+    ensures answers_after { answers.new ≡ answers_for_c (room_verdict (batch_in parcel.now) (length lists.old) (length bytes.old) (length words.old) (length answers.old)) cap answers.old }
+    ensures tables_after { tables.new ≡ tables_for_c (end_of (room_verdict (batch_in parcel.now) (length lists.old) (length bytes.old) (length words.old) (length answers.old)) cap) tables.old }
+    ensures left_after { left.new ≡ left_for_c (end_of (room_verdict (batch_in parcel.now) (length lists.old) (length bytes.old) (length words.old) (length answers.old)) cap) left.old }
+{
+    let mut own = [Answer::None {
+        choices: 0,
+        settled: 0,
+    }; MOST_TABLES];
+    let room = answers.len().min(MOST_TABLES);
+    match fitter::repair_batch(parcel, cap, lists, bytes, words, &mut own[..room]) {
+        Ok(end) => {
+            store_answers(&own, end.tables as usize, answers);
+            *tables = end.tables;
+            *left = end.left;
+            0
+        }
+        Err(refusal) => u32::from(refusal),
+    }
 }

@@ -25,6 +25,7 @@ use Rattle.table.specs.declared.refusal.Refusal.TheVariants.{
   NoInitialKept,
   RootFails,
   UnreachedStep,
+  NotTables,
 }
 use Rattle.table.specs.Verdict.{Verdict, require}
 use Rattle.table.specs.Table.{Table, table_of}
@@ -83,6 +84,7 @@ module _ (entries room : ℕ) (table list : List ℕ) where
   of_table NoInitialKept x = x
   of_table RootFails x = x
   of_table UnreachedStep x = x
+  of_table NotTables x = x
 
   too_few : leb entries room ≡ false → room < entries
   too_few f = let short : ¬ (entries ≤ room) = (λ h. true≢false (sym (le-leb entries room h) ∙ f)) in

@@ -25,6 +25,7 @@ use Rattle.table.specs.declared.refusal.Refusal.TheVariants.{
   NoInitialKept,
   RootFails,
   UnreachedStep,
+  NotTables,
 }
 use Rattle.table.specs.Verdict.{Verdict, require}
 use Rattle.table.specs.Buffer.{on_accepted, Written}
@@ -91,6 +92,7 @@ module _ (table list bytes words : List ℕ) where
   of_table NoInitialKept h = h
   of_table RootFails h = h
   of_table UnreachedStep h = h
+  of_table NotTables h = h
 
   -- what a refusal says, where the table is refused and where it is not
   refused_for : (v : Verdict) → table_verdict table ≡ v → (r : Refusal)

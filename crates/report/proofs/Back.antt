@@ -24,6 +24,7 @@ use Rattle.table.specs.declared.refusal.Refusal.TheVariants.{
   NoInitialKept,
   RootFails,
   UnreachedStep,
+  NotTables,
 }
 use Rattle.table.specs.Verdict.{Verdict, require, ◌then◌}
 use Rattle.table.specs.Table.{Table, table_of, counts_of, packed_length, header_width, is_initial}
@@ -159,3 +160,4 @@ module _ (bytes : List ℕ) where
   refused_back NoInitialKept t = absurd t
   refused_back RootFails t = absurd t
   refused_back UnreachedStep t = absurd t
+  refused_back NotTables t = absurd t

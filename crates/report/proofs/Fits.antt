@@ -94,7 +94,7 @@ lines_length n h (x ∷ steps) (kept ∷ list) fit bits =
 
 -- ---- Repair's answer
 
-refusal_few : (r : Refusal) → refusal_number r ≤ 16
+refusal_few : (r : Refusal) → refusal_number r ≤ 17
 refusal_few refusal.SheetForm = omega arith
 refusal_few refusal.Length = omega arith
 refusal_few refusal.Counts = omega arith
@@ -109,6 +109,7 @@ refusal_few refusal.NotTotal = omega arith
 refusal_few refusal.NoInitialKept = omega arith
 refusal_few refusal.RootFails = omega arith
 refusal_few refusal.UnreachedStep = omega arith
+refusal_few refusal.NotTables = omega arith
 
 pub refused-length : (r : Refusal) → length (refused r) ≤ 1078
 refused-length r =

@@ -25,6 +25,7 @@ use Rattle.table.specs.declared.refusal.Refusal.TheVariants.{
   NoInitialKept,
   RootFails,
   UnreachedStep,
+  NotTables,
 }
 use Rattle.table.specs.Table.{table_of}
 use Rattle.table.specs.Accept.{table_verdict}
@@ -62,7 +63,7 @@ refusal_by n =
     (cond (eqb n 5610) NodeRecord
     (cond (eqb n 5710) ListForm
     (cond (eqb n 4948) ShortBuffer
-    (cond (eqb n 4949) NotTotal (cond (eqb n 4950) NoInitialKept (cond (eqb n 4951) RootFails UnreachedStep))))))))))))
+    (cond (eqb n 4949) NotTotal (cond (eqb n 4950) NoInitialKept (cond (eqb n 4951) RootFails (cond (eqb n 4954) UnreachedStep NotTables)))))))))))))
 
 abbrev refusal_in : List ℕ → Refusal
 refusal_in text = refusal_by (100 * get_or text 22 0 + get_or text 23 0)
@@ -83,6 +84,7 @@ told NotTotal = refl
 told NoInitialKept = refl
 told RootFails = refl
 told UnreachedStep = refl
+told NotTables = refl
 
 same_refusal : (q r : Refusal) → refused q ≡ refused r → q ≡ r
 same_refusal q r e = sym (told q) ∙ ap refusal_in e ∙ told r

@@ -1,6 +1,7 @@
-// 1 to 13, and 16: the example of each refusal.
+// 1 to 13, 16 and 17: the example of each refusal.
 use crate::calls::{repair, repair_in, sheet};
 use crate::print::{print_answer, print_tested};
+use fitter::Answer;
 use std::io;
 
 fn print_refused(rt: &impl Print, table: &[u8], sample: &str) -> io::Result<()> {
@@ -74,5 +75,26 @@ pub fn run_lists(rt: &impl Print) -> io::Result<()> {
     )?;
     print_judged(rt, &table, b"\x00\x00\x00\x00", "list 0 0 0 0")?;
     print_judged(rt, &table, b"\x01\x01\x01\x01", "list 1 1 1 1")?;
-    print_judged(rt, &table, b"\x01\x01\x00\x01", "list 1 1 0 1")
+    print_judged(rt, &table, b"\x01\x01\x00\x01", "list 1 1 0 1")?;
+    run_batch(rt)
+}
+
+// The sample sheet's table, and a byte behind it that is no table.
+fn run_batch(rt: &impl Print) -> io::Result<()> {
+    let mut tables = [0u8; 41];
+    tables[..40].copy_from_slice(&sheet());
+    let (mut lists, mut bytes, mut words) = ([0u8; 8], [0u8; 100], [0u32; 100]);
+    let mut answers = [Answer::None {
+        choices: 0,
+        settled: 0,
+    }; 8];
+    let tried = fitter::repair_batch(
+        &tables,
+        10,
+        &mut lists,
+        &mut bytes,
+        &mut words,
+        &mut answers,
+    );
+    print_tested(rt, tried, "the sheet and a byte")
 }

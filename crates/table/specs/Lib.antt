@@ -9,6 +9,7 @@ pub mod Buffer
 -- What is promised.
 pub mod Refused
 pub mod From
+pub mod First
 -- What computes; a law or a clause says that it agrees with what is to be believed.
 pub mod Accept
 -- What contracts between functions and proofs speak of; no promise does.

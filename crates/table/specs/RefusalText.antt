@@ -16,6 +16,7 @@ use Rattle.table.specs.declared.refusal.Refusal.TheVariants.{
   NoInitialKept,
   RootFails,
   UnreachedStep,
+  NotTables,
 }
 
 abbrev pub refusal_text : Refusal → List ℕ
@@ -33,3 +34,4 @@ refusal_text NotTotal = codes "a kept step ends in a state that is not kept"
 refusal_text NoInitialKept = codes "no initial state is kept"
 refusal_text RootFails = codes "the root fails at a kept initial state"
 refusal_text UnreachedStep = codes "a kept step leaves a state that is not reached"
+refusal_text NotTables = codes "the bytes are not one to eight accepted tables end to end"

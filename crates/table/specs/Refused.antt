@@ -17,6 +17,7 @@ use Rattle.table.specs.declared.refusal.Refusal.TheVariants.{
   NoInitialKept,
   RootFails,
   UnreachedStep,
+  NotTables,
 }
 use Rattle.table.specs.Table.{Table, table_of, counts_of, packed_length, header_width, state_at, step_at}
 pub use Rattle.table.specs.Facts.{NoStepTwice, NodesFit}
@@ -75,3 +76,4 @@ TableRefused bytes NotTotal = ⊥
 TableRefused bytes NoInitialKept = ⊥
 TableRefused bytes RootFails = ⊥
 TableRefused bytes UnreachedStep = ⊥
+TableRefused bytes NotTables = ⊥

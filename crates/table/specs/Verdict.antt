@@ -16,6 +16,7 @@ use Rattle.table.specs.declared.refusal.Refusal.TheVariants.{
   NoInitialKept,
   RootFails,
   UnreachedStep,
+  NotTables,
 }
 
 -- the answer of a test: accepted, or refused and why
@@ -37,6 +38,7 @@ refusal_number NotTotal = 11
 refusal_number NoInitialKept = 12
 refusal_number RootFails = 13
 refusal_number UnreachedStep = 16
+refusal_number NotTables = 17
 
 -- the number of a verdict, or of an answer that gives something: 0 where nothing is refused
 abbrev pub verdict_number : {A : Type 0} → Result A Refusal → ℕ

@@ -4,6 +4,7 @@
 
 mod accepted;
 mod counts;
+mod first;
 mod header_check;
 mod limits;
 mod list_check;
@@ -22,6 +23,7 @@ mod width;
 
 pub use accepted::Accepted;
 pub use counts::{Counts, packed_length};
+pub use first::first_table;
 pub use limits::{MOST_NODES, MOST_STATES, MOST_STEPS};
 pub use list_check::check_list;
 pub use operator::{Family, Operator, Quantifier};

@@ -5,7 +5,7 @@ ghost use Rattle.table.specs.Verdict.{refusal_number, verdict_number};
 use std::error::Error;
 use std::fmt;
 
-/// Why a call refuses its input, in the order of the numbers: 1 to 13, and 16, since 14 and 15 are Repair's none and
+/// Why a call refuses its input, in the order of the numbers: 1 to 13, 16 and 17, since 14 and 15 are Repair's none and
 /// spent.
 ///
 /// `u32::from` gives the number, and `Display` says what is wrong.
@@ -25,6 +25,7 @@ pub enum Refusal {
     NoInitialKept = 12,
     RootFails = 13,
     UnreachedStep = 16,
+    NotTables = 17,
 }
 
 impl From<Refusal> for u32 {
@@ -58,6 +59,7 @@ impl fmt::Display for Refusal {
             Refusal::NoInitialKept => "no initial state is kept",
             Refusal::RootFails => "the root fails at a kept initial state",
             Refusal::UnreachedStep => "a kept step leaves a state that is not reached",
+            Refusal::NotTables => "the bytes are not one to eight accepted tables end to end",
         })
     }
 }

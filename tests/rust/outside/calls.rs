@@ -1,18 +1,19 @@
 // Makes a call and compares its number, what it stores, every entry of its buffers, and their guards.
 use crate::clauses;
-use crate::fitter;
+use crate::fitter::{self, Answer};
 use crate::lent::Lent;
+use crate::parcel::ParcelRooms;
 use crate::random::Random;
 use crate::wanted::{self, Rooms};
 
-pub const NAMES: [&str; 5] = ["repair", "judge", "label", "holding", "read"];
+pub const NAMES: [&str; 6] = ["repair", "judge", "label", "holding", "read", "parcel"];
 
-// A call gives 0 to 16.
-pub const NUMBERS: usize = 17;
+// A call gives 0 to 17.
+pub const NUMBERS: usize = 18;
 
 // How many calls of each kind agreed, by the number they gave.
 pub struct Calls {
-    pub agreed: [[u64; NUMBERS]; 5],
+    pub agreed: [[u64; NUMBERS]; NAMES.len()],
 }
 
 pub fn hex(bytes: &[u8]) -> String {
@@ -128,5 +129,49 @@ impl Calls {
             .and_then(|()| words.check())
             .and_then(|()| t.check());
         self.count(0, number, compared, || format!("table {}\ncap {cap}\n{rooms:?}\nwanted {wanted:?}", hex(table)))
+    }
+
+    pub fn parcel(
+        &mut self, random: &mut Random, parcel: &[u8], cap: u64, rooms: ParcelRooms,
+        search: impl FnMut(usize, u64) -> clauses::Answer,
+    ) -> Result<(), String> {
+        let mut p = Lent::given(random, "parcel", parcel);
+        let mut lists = Lent::<u8>::junk(random, "lists", rooms.lists);
+        let mut bytes = Lent::<u8>::junk(random, "bytes", rooms.bytes);
+        let mut words = Lent::<u32>::junk(random, "words", rooms.words);
+        let mut answers = Lent::<Answer>::junk(random, "answers", rooms.answers);
+        let before = (random.next() as u32, random.next());
+        let (mut tables, mut left) = before;
+        let wanted = wanted::parcel(parcel, cap, rooms, search);
+        let mut stored = before;
+        if let Ok(all) = &wanted {
+            for (k, (place, answer)) in all.answers.iter().enumerate() {
+                let clauses::Answer { number, choices, price, settled, ref list } = *answer;
+                lists.want_at(*place, list);
+                answers.want_at(k, &[Answer { choices, number, price, settled }]);
+            }
+            bytes.want(&vec![0; all.zeros]);
+            words.want(&vec![0; all.zeros]);
+            stored = (all.answers.len() as u32, all.left);
+        }
+        let got = fitter::parcel(
+            p.part(),
+            cap,
+            lists.part(),
+            bytes.part(),
+            words.part(),
+            answers.part(),
+            &mut tables,
+            &mut left,
+        );
+        let compared = same("number", got, number(&wanted))
+            .and_then(|()| same("tables and allowance left", (tables, left), stored))
+            .and_then(|()| answers.check())
+            .and_then(|()| lists.check())
+            .and_then(|()| bytes.check())
+            .and_then(|()| words.check())
+            .and_then(|()| p.check());
+        let inputs = || format!("parcel {}\ncap {cap}\n{rooms:?}\nwanted {wanted:?}", hex(parcel));
+        self.count(5, number(&wanted), compared, inputs)
     }
 }

@@ -1,7 +1,8 @@
 // A buffer between two guards. What it and its guards should hold after a call is kept beside it.
+use crate::fitter::Answer;
 use crate::random::Random;
 
-pub trait Entry: Copy + PartialEq + std::fmt::LowerHex {
+pub trait Entry: Copy + PartialEq + std::fmt::Debug {
     fn from_bits(bits: u64) -> Self;
 }
 
@@ -14,6 +15,13 @@ impl Entry for u8 {
 impl Entry for u32 {
     fn from_bits(bits: u64) -> Self {
         (bits >> 24) as u32
+    }
+}
+
+impl Entry for Answer {
+    fn from_bits(bits: u64) -> Self {
+        let [number, price, settled] = [8, 16, 24].map(|by| (bits >> by) as u32);
+        Answer { choices: bits.rotate_left(40), number, price, settled }
     }
 }
 
@@ -53,7 +61,13 @@ impl<T: Entry> Lent<T> {
 
     // The first entries after the call; the others stay.
     pub fn want(&mut self, entries: &[T]) {
-        self.wanted[self.from..self.from + entries.len()].copy_from_slice(entries);
+        self.want_at(0, entries);
+    }
+
+    // The entries from a place on.
+    pub fn want_at(&mut self, place: usize, entries: &[T]) {
+        let from = self.from + place;
+        self.wanted[from..from + entries.len()].copy_from_slice(entries);
     }
 
     // Compares entry by entry. Entries before the buffer have numbers below 0.
@@ -62,7 +76,7 @@ impl<T: Entry> Lent<T> {
             if self.all[i] != self.wanted[i] {
                 let place = i as i64 - self.from as i64;
                 return Err(format!(
-                    "{} (room {}), entry {place}: {:x}, wanted {:x}",
+                    "{} (room {}), entry {place}: {:x?}, wanted {:x?}",
                     self.name, self.room, self.all[i], self.wanted[i]
                 ));
             }

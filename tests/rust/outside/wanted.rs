@@ -2,6 +2,7 @@
 // comes before 13.
 use crate::clauses;
 use crate::meaning::{self, Graph};
+use crate::parcel::{self, ParcelRooms};
 use crate::sheet;
 use crate::striking;
 use crate::table::{accept, accept_list, Table};
@@ -68,4 +69,36 @@ pub fn repair(table: &[u8], rooms: Rooms, search: impl FnOnce() -> clauses::Answ
     let answer = search();
     let list = if answer.number == 0 { striking::strike(&table.initial, &table.steps, &answer.list) } else { vec![] };
     Ok(clauses::Answer { list, ..answer })
+}
+
+// What a parcel gives: for each table where its list begins, and its answer; how many entries of the work buffers are
+// 0; and the allowance left.
+#[derive(Debug)]
+pub struct Parcelled {
+    pub answers: Vec<(usize, clauses::Answer)>,
+    pub zeros: usize,
+    pub left: u64,
+}
+
+// Repair alone, table after table, each with what is left. `search` gives the answer of the search of a table, by its
+// number, under a cap; it is asked only where nothing is refused.
+pub fn parcel(
+    parcel: &[u8], cap: u64, rooms: ParcelRooms, mut search: impl FnMut(usize, u64) -> clauses::Answer,
+) -> Result<Parcelled, u32> {
+    let tables = parcel::apart(parcel).ok_or(17u32)?;
+    let needed = parcel::needed(&tables);
+    let lent = [rooms.lists, rooms.bytes, rooms.words, rooms.answers];
+    if lent.iter().zip([needed.lists, needed.bytes, needed.words, needed.answers]).any(|(&room, need)| room < need) {
+        return Err(10);
+    }
+    let mut all = Parcelled { answers: vec![], zeros: needed.words, left: cap };
+    let mut place = 0;
+    for (k, table) in tables.iter().enumerate() {
+        let rooms = Rooms { list: rooms.lists, bytes: rooms.bytes, words: rooms.words };
+        let answer = repair(table, rooms, || search(k, all.left))?;
+        all.left -= answer.choices;
+        all.answers.push((place, answer));
+        place += table[1] as usize;
+    }
+    Ok(all)
 }

@@ -1,0 +1,10 @@
+pub mod Cut
+pub mod Allowance
+pub mod Work
+pub mod Turn
+pub mod Needs
+pub mod InTurn
+pub mod Right
+pub mod Measured
+pub mod EachTurn
+pub mod Tested
