@@ -33,7 +33,8 @@ some_none : IsSome no_tables_given → ⊥
 some_none h = false≢true h
 
 -- bytes that are some tables, and of which none may be taken, are none
-pub none_more : (most : ℕ) (rest : List ℕ) → IsSome (tables_in most rest) → most ≡ 0 → tables_or_none (tables_in most rest) ≡ []
+pub none_more : (most : ℕ) (rest : List ℕ) → IsSome (tables_in most rest) → most ≡ 0
+    → tables_or_none (tables_in most rest) ≡ []
 none_more most [] h e = ap tables_or_none (no_bytes most [] refl)
 none_more most (b ∷ bs) h e =
     absurd (some_none (subst IsSome (no_tables most (b ∷ bs) e (λ l. absurd (omega (arith, l)))) h))
@@ -75,7 +76,8 @@ module _ (most : ℕ) (rest t : List ℕ) (more : ¬ (most ≡ 0)) (some : ¬ (l
   split None h = absurd (some_none h)
   split (Some ts) h = (refl, refl)
 
-  there : IsSome (tables_in (most - 1) behind) × (tables_or_none (in_front t (Ok tt) (tables_in (most - 1) behind)) ≡ t ∷ us)
+  there : IsSome (tables_in (most - 1) behind)
+      × (tables_or_none (in_front t (Ok tt) (tables_in (most - 1) behind)) ≡ t ∷ us)
   there = split (tables_in (most - 1) behind) (subst IsSome same tabled)
 
   pub behind_some : IsSome (tables_in (most - 1) behind)
@@ -88,14 +90,16 @@ module _ (most : ℕ) (rest t : List ℕ) (more : ¬ (most ≡ 0)) (some : ¬ (l
   unfolding all_steps
   all_is = ap all_steps whole
 
-  pub most_is : most_variables (tables_or_none (tables_in most rest)) ≡ max (variable_formula (table_of t)) (most_variables us)
+  pub most_is : most_variables (tables_or_none (tables_in most rest))
+      ≡ max (variable_formula (table_of t)) (most_variables us)
   unfolding most_variables
   most_is = ap most_variables whole
 
   pub count_is : length (tables_or_none (tables_in most rest)) ≡ suc (length us)
   count_is = ap length whole
 
-  pub first_fits : (k : ℕ) → most_variables (tables_or_none (tables_in most rest)) ≤ k → variable_formula (table_of t) ≤ k
+  pub first_fits : (k : ℕ) → most_variables (tables_or_none (tables_in most rest)) ≤ k
+      → variable_formula (table_of t) ≤ k
   first_fits k h =
       let low = le-max_left (variable_formula (table_of t)) (most_variables us) in omega (arith, h, most_is, low)
 
@@ -123,7 +127,8 @@ module _ (most : ℕ) (rest t : List ℕ) (more : ¬ (most ≡ 0)) (some : ¬ (l
       → cleared (most_variables us) (cleared (variable_formula (table_of t)) b)
       ≡ cleared (most_variables (tables_or_none (tables_in most rest))) b
   work_turn b h =
-      cleared_twice (variable_formula (table_of t)) (most_variables us) b (first_fits (length b) h) (rest_fits (length b) h)
+      cleared_twice (variable_formula (table_of t)) (most_variables us) b
+      (first_fits (length b) h) (rest_fits (length b) h)
       ∙ ap (λ (k : ℕ). cleared k b) (sym most_is)
 
   pub answers_turn : (cap left : ℕ) (answers : List Answer) → left ≡ cap - used t cap → 1 ≤ length answers

@@ -1,4 +1,5 @@
--- By the numbers of the tables: what each gets is what the repairer alone gives of it, under what the earlier ones left.
+-- By the numbers of the tables: what each gets is what the repairer alone gives of it, under what the earlier ones
+-- left.
 use Prim.Native.Nat.{ℕ, zero, suc, ◌+◌, ◌-◌, ◌≤◌, ◌<◌, zero-le}
 use native.Mathlib.Nat.{not-suc-le-zero, le_of_suc-le-suc, le_refl}
 use native.Mathlib.Omega.{arith}

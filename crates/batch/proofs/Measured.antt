@@ -106,7 +106,8 @@ needs_few most bytes b e = go (tables_in most bytes) refl e
 
 -- ---- the bytes behind the first table, as the code takes them
 
-pub rest_slice : (xs t : List ℕ) → t ≡ first_bytes xs → take (length xs - length t) (drop (length t) xs) ≡ bytes_behind xs
+pub rest_slice : (xs t : List ℕ) → t ≡ first_bytes xs
+    → take (length xs - length t) (drop (length t) xs) ≡ bytes_behind xs
 rest_slice xs t e =
     let k = packed_length (counts_of xs) in
     let whole : length xs - length t ≡ length (drop (length t) xs) = sym (length-drop (length t) xs) in

@@ -83,7 +83,8 @@ batch_cut bytes ts b =
     ap at_least_one (ap (tables_in most_tables) b.joined ∙ cut_again most_tables ts (each_back ts b.each) b.few)
     ∙ some_tables ts b.some
 
-one_table : (o : Option (List (List ℕ))) (ts : List (List ℕ)) → at_least_one o ≡ Some ts → (o ≡ Some ts) × (1 ≤ length ts)
+one_table : (o : Option (List (List ℕ))) (ts : List (List ℕ)) → at_least_one o ≡ Some ts
+    → (o ≡ Some ts) × (1 ≤ length ts)
 one_table None ts e = absurd (none-some ts e)
 one_table (Some []) ts e = absurd (none-some ts e)
 one_table (Some (u ∷ us)) ts e =
@@ -216,7 +217,9 @@ module _ (bytes : List ℕ) (cap : ℕ) (lists work words : List ℕ) (answers :
   Told v = (IsOk (end_of v cap) ↔ Taken) × IfErr (end_of v cap) Refused
 
   told_room : (ts : List (List ℕ)) → batch_in bytes ≡ Some ts → (b : Bool) → room ts ≡ b → Told (at_room (Some ts))
-  told_room ts e true r = subst Told (sym (ap pick r)) (((λ ok. (ts, cut_batch bytes ts e, has_room ts _ _ _ _ r)), λ taken. refl), tt)
+  told_room ts e true r =
+      subst Told (sym (ap pick r))
+      (((λ ok. (ts, cut_batch bytes ts e, has_room ts _ _ _ _ r)), λ taken. refl), tt)
     where
       pick : Bool → Result (List (List ℕ)) Refusal
       pick b = elim b [ true ↦ Ok ts | false ↦ Err ShortBuffer ]
@@ -238,7 +241,8 @@ module _ (bytes : List ℕ) (cap : ℕ) (lists work words : List ℕ) (answers :
 
   told : (o : Option (List (List ℕ))) → batch_in bytes ≡ o → Told (at_room o)
   told None e =
-      let not_batch : (ts : List (List ℕ)) → ¬ IsBatch bytes ts = (λ ts b. none-some ts (sym e ∙ batch_cut bytes ts b)) in
+      let not_batch : (ts : List (List ℕ)) → ¬ IsBatch bytes ts =
+      (λ ts b. none-some ts (sym e ∙ batch_cut bytes ts b)) in
       (((λ ok. absurd (false≢true ok)), λ taken. absurd (not_batch taken.0 taken.1)), not_batch)
   told (Some ts) e = told_room ts e (room ts) refl
 
@@ -305,7 +309,8 @@ module _ (bytes : List ℕ) (cap : ℕ) (lists work words : List ℕ) (answers :
 
 -- ---- all of it, by what the tests come to
 
-module _ (bytes : List ℕ) (cap : ℕ) (lists work words : List ℕ) (answers : List Answer) (v : Result (List (List ℕ)) Refusal) where
+module _ (bytes : List ℕ) (cap : ℕ) (lists work words : List ℕ) (answers : List Answer)
+    (v : Result (List (List ℕ)) Refusal) where
   abbrev lists' : List ℕ
   lists' = on_tables v (λ ts. lists_after ts cap lists) lists
 
@@ -329,17 +334,19 @@ module _ (bytes : List ℕ) (cap : ℕ) (lists work words : List ℕ) (answers :
     pub refused : IfErr (end_of v cap) (BatchRefused bytes (length lists) (length work) (length words) (length answers))
     pub untouched : OnErr (end_of v cap)
         ((lists' ≡ lists) × ((work' ≡ work) × ((words' ≡ words) × (answers' ≡ answers))))
-    pub right : IfOk (end_of v cap) (λ end. BatchIsRight bytes cap end.tables end.left answers answers' lists lists' work
-        work' words words')
+    pub right : IfOk (end_of v cap) (λ end. BatchIsRight bytes cap end.tables end.left answers answers' lists lists'
+        work work' words words')
 
   pub given_by : batch_verdict bytes cap lists work words answers ≡ v → Given
   given_by e = record {
     value = ap (λ (w : Result (List (List ℕ)) Refusal). end_of w cap) (sym e);
-    lists_after = ap (λ (w : Result (List (List ℕ)) Refusal). on_tables w (λ ts. lists_after ts cap lists) lists) (sym e);
+    lists_after =
+        ap (λ (w : Result (List (List ℕ)) Refusal). on_tables w (λ ts. lists_after ts cap lists) lists) (sym e);
     bytes_after =
         ap (λ (w : Result (List (List ℕ)) Refusal). on_tables w (λ ts. cleared (most_variables ts) work) work) (sym e);
     words_after =
-        ap (λ (w : Result (List (List ℕ)) Refusal). on_tables w (λ ts. cleared (most_variables ts) words) words) (sym e);
+        ap (λ (w : Result (List (List ℕ)) Refusal).
+        on_tables w (λ ts. cleared (most_variables ts) words) words) (sym e);
     answers_after = ap (λ (w : Result (List (List ℕ)) Refusal).
         on_tables w (λ ts. answers_of ts cap ++ drop (length ts) answers) answers) (sym e);
     accepted = (subst (Told bytes cap lists work words answers) e (tests_told bytes cap lists work words answers)).0;

@@ -1,4 +1,5 @@
--- One table in its turn: what the repairer gives of it, where its part of the lists and the work buffers are long enough.
+-- One table in its turn: what the repairer gives of it, where its part of the lists and the work buffers are long
+-- enough.
 use Prim.Native.Nat.{ℕ, ◌≤◌}
 use mathlib.Core.Path.{◌≡◌, sym}
 use mathlib.Core.List.{List}
@@ -19,7 +20,8 @@ use Rattle.batch.specs.Batch.{steps_in}
 module _ (t : List ℕ) (cap : ℕ) (list bytes words : List ℕ) where
   pub record Turned : Type 0 where
     pub answer : repair_answer t cap list bytes words ≡ answer_of (search_under (table_of t) cap)
-    pub list_after : repair_list t cap list bytes words ≡ written_after (table_of t) (search_under (table_of t) cap) list
+    pub list_after : repair_list t cap list bytes words
+        ≡ written_after (table_of t) (search_under (table_of t) cap) list
     pub bytes_after : repair_bytes t cap list bytes words ≡ cleared (variable_formula (table_of t)) bytes
     pub words_after : repair_words t cap list bytes words ≡ cleared (variable_formula (table_of t)) words
 

@@ -1,5 +1,5 @@
--- Several tables end to end, each repaired in its turn under what the earlier ones have left of one allowance of choices.
--- Specification, "Batches".
+-- Several tables end to end, each repaired in its turn under what the earlier ones have left of one allowance of
+-- choices. Specification, "Batches".
 use Rattle.std.specs.Prelude.{ℕ, zero, suc, ◌+◌, ◌-◌, ◌≤◌, ◌<◌, ◌≡◌, max, List, [], ◌∷◌, length, get_or, take, drop}
 use Rattle.table.specs.Table.{table_of}
 use Rattle.table.specs.Facts.{IsTable}
@@ -43,7 +43,8 @@ part tables k lists = take (steps_in (table_at tables k)) (drop (steps_before ta
 abbrev pub used : List ℕ → ℕ → ℕ
 used table cap = choices (search_under (table_of table) cap)
 
--- what is left of the cap for table k: the cap, less the choices of each table before it, under what was left for that one
+-- what is left of the cap for table k: the cap, less the choices of each table before it, under what was left for that
+-- one
 unfoldable pub allowance : List (List ℕ) → ℕ → ℕ → ℕ
 allowance tables cap zero = cap
 allowance [] cap (suc k) = cap

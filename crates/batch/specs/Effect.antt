@@ -95,7 +95,8 @@ left_after (t ∷ ts) cap = left_after ts (cap - used t cap)
 -- each table
 abbrev pub room_for : List (List ℕ) → ℕ → ℕ → ℕ → ℕ → Bool
 room_for ts lists bytes words answers =
-    leb (all_steps ts) lists && leb (most_variables ts) bytes && leb (most_variables ts) words && leb (length ts) answers
+    leb (all_steps ts) lists && leb (most_variables ts) bytes && leb (most_variables ts) words
+    && leb (length ts) answers
 
 -- the tests: of the tables, then of the buffers
 abbrev pub room_verdict : Option (List (List ℕ)) → ℕ → ℕ → ℕ → ℕ → Result (List (List ℕ)) Refusal

@@ -84,8 +84,8 @@ pub record BatchIsRight (bytes : List ℕ) (cap count left : ℕ) (answers answe
   pub counted : count ≡ length tables
   -- table k, under what the tables before it have left; what it leaves is for the next one
   pub each : (k : ℕ) → k < length tables
-      → TableRight (table_at tables k) (allowance tables cap k) (allowance tables cap (suc k)) (answer_number_at answers' k)
-      (part tables k lists) (part tables k lists')
+      → TableRight (table_at tables k) (allowance tables cap k) (allowance tables cap (suc k))
+      (answer_number_at answers' k) (part tables k lists) (part tables k lists')
   -- and what the last one leaves is handed back
   pub left_over : left ≡ allowance tables cap (length tables)
   -- so all choices and what is left add up to the cap
@@ -101,4 +101,6 @@ pub record BatchIsRight (bytes : List ℕ) (cap count left : ℕ) (answers answe
 
 -- bytes are a batch of some tables in one way only
 abbrev pub BatchesAreUnique : Type 0
-BatchesAreUnique = (bytes : List ℕ) (tables others : List (List ℕ)) → IsBatch bytes tables → IsBatch bytes others → tables ≡ others
+BatchesAreUnique =
+    (bytes : List ℕ) (tables others : List (List ℕ))
+    → IsBatch bytes tables → IsBatch bytes others → tables ≡ others

@@ -46,7 +46,8 @@ pub fn repair_batch(
     ensures refused { IfErr result
         (BatchRefused tables.now (length lists.old) (length bytes.old) (length words.old) (length answers.old)) }
     ensures untouched { OnErr result
-        ((lists.new ≡ lists.old) × ((bytes.new ≡ bytes.old) × ((words.new ≡ words.old) × (answers.new ≡ answers.old)))) }
+        ((lists.new ≡ lists.old)
+        × ((bytes.new ≡ bytes.old) × ((words.new ≡ words.old) × (answers.new ≡ answers.old)))) }
     ensures right { IfOk result (λ end. BatchIsRight tables.now cap end.tables end.left answers.old answers.new
         lists.old lists.new bytes.old bytes.new words.old words.new) }
 {

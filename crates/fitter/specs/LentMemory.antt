@@ -75,14 +75,15 @@ pub record ReadLeaves (text : List ℕ) (answer : Result ℕ Refusal) (before af
   pub written : IfOk answer (λ k. ReadIsExact text k before after)
 
 -- Several tables end to end, with their lists, two work buffers and answers
-module _ (bytes : List ℕ) (cap : ℕ) (result : Result BatchEnd Refusal) (lists work words : List ℕ) (answers : List Answer)
+module _ (bytes : List ℕ) (cap : ℕ) (result : Result BatchEnd Refusal)
+    (lists work words : List ℕ) (answers : List Answer)
     (lists' work' words' : List ℕ) (answers' : List Answer) where
   pub record BatchLeaves : Type 0 where
     pub refused : IfErr result (BatchRefused bytes (length lists) (length work) (length words) (length answers))
     pub untouched : OnErr result ((lists' ≡ lists) × ((work' ≡ work) × ((words' ≡ words) × (answers' ≡ answers))))
     pub answered : IsOk result ↔ BatchTaken bytes (length lists) (length work) (length words) (length answers)
-    pub written : IfOk result (λ end. BatchIsRight bytes cap end.tables end.left answers answers' lists lists' work work'
-        words words')
+    pub written : IfOk result (λ end. BatchIsRight bytes cap end.tables end.left answers answers' lists lists'
+        work work' words words')
 
 pub record LentMemory : Type 0 where
   pub repair : (table : List ℕ) (cap : ℕ) (list bytes words : List ℕ)

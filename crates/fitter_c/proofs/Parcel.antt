@@ -36,7 +36,19 @@ use Rattle.batch.specs.Effect.{
 }
 use Rattle.batch.proofs.Right.{cut_batch, answers_length}
 use Rattle.fitter_c.specs.declared.table_answer.TableAnswer.{TableAnswer}
-use Rattle.fitter_c.specs.Answers.{for_c, answers_for_c, tables_for_c, left_for_c}
+use Rattle.fitter_c.specs.Answers.{
+  for_c,
+  answers_for_c,
+  tables_for_c,
+  left_for_c,
+  parcel_verdict,
+  parcel_lists,
+  parcel_bytes,
+  parcel_words,
+  parcel_answers,
+  parcel_tables,
+  parcel_left,
+}
 use Rattle.fitter_c.proofs.Front.{front_mapped}
 
 -- ---- as many answers as a batch may have are as good as more
@@ -98,7 +110,8 @@ module _ (v : Result (List (List ℕ)) Refusal) (cap : ℕ) where
 -- ---- the answers at the front of what C lends
 
 pub front_answers : (ts : List (List ℕ)) (cap k : ℕ) (more rest : List Answer) (out : List TableAnswer) → k ≡ length ts
-    → over k (map for_c ((answers_of ts cap ++ more) ++ rest)) out ≡ map for_c (answers_of ts cap) ++ drop (length ts) out
+    → over k (map for_c ((answers_of ts cap ++ more) ++ rest)) out
+    ≡ map for_c (answers_of ts cap) ++ drop (length ts) out
 front_answers ts cap k more rest out e =
     let n : k ≡ length (answers_of ts cap) = e ∙ sym (answers_length ts cap) in
     (λ i. take (n i) (map for_c (append_assoc (answers_of ts cap) more rest i)) ++ drop (e i) out)
@@ -109,7 +122,7 @@ front_answers ts cap k more rest out e =
 module _ (parcel : List ℕ) (cap : ℕ) (lists bytes words : List ℕ) (own : List Answer) (out : List TableAnswer) (m : ℕ)
     (size : length own ≡ m) (low : m ≤ length out) (high : (length out ≤ m) ⊎ (8 ≤ m)) where
   abbrev V : Result (List (List ℕ)) Refusal
-  V = room_verdict (batch_in parcel) (length lists) (length bytes) (length words) (length out)
+  V = parcel_verdict parcel cap lists bytes words out
 
   same : batch_verdict parcel cap lists bytes words own ≡ V
   same =
@@ -119,15 +132,16 @@ module _ (parcel : List ℕ) (cap : ℕ) (lists bytes words : List ℕ) (own : L
   pub record Clauses (number : ℕ) (lists' bytes' words' : List ℕ) (out' : List TableAnswer)
       (tables tables' left left' : ℕ) : Type 0 where
     pub value : number ≡ verdict_number V
-    pub lists_after : lists' ≡ on_tables V (λ ts. lists_after ts cap lists) lists
-    pub bytes_after : bytes' ≡ on_tables V (λ ts. cleared (most_variables ts) bytes) bytes
-    pub words_after : words' ≡ on_tables V (λ ts. cleared (most_variables ts) words) words
-    pub answers_after : out' ≡ answers_for_c V cap out
-    pub tables_after : tables' ≡ tables_for_c (end_of V cap) tables
-    pub left_after : left' ≡ left_for_c (end_of V cap) left
+    pub lists_after : lists' ≡ parcel_lists parcel cap lists bytes words out
+    pub bytes_after : bytes' ≡ parcel_bytes parcel cap lists bytes words out
+    pub words_after : words' ≡ parcel_words parcel cap lists bytes words out
+    pub answers_after : out' ≡ parcel_answers parcel cap lists bytes words out
+    pub tables_after : tables' ≡ parcel_tables parcel cap lists bytes words out tables
+    pub left_after : left' ≡ parcel_left parcel cap lists bytes words out left
 
   module _ (lists' bytes' words' : List ℕ) (a : lists' ≡ batch_lists parcel cap lists bytes words own)
-      (b : bytes' ≡ batch_bytes parcel cap lists bytes words own) (w : words' ≡ batch_words parcel cap lists bytes words own)
+      (b : bytes' ≡ batch_bytes parcel cap lists bytes words own)
+      (w : words' ≡ batch_words parcel cap lists bytes words own)
       (tables left : ℕ) where
     pub refused_clauses : (r : Refusal) → Err r ≡ batch_end parcel cap lists bytes words own
         → Clauses (refusal_number r) lists' bytes' words' out tables tables left left
@@ -135,9 +149,16 @@ module _ (parcel : List ℕ) (cap : ℕ) (lists bytes words : List ℕ) (own : L
         let v : V ≡ Err r = sym same ∙ refused_by (batch_verdict parcel cap lists bytes words own) cap r e in
         record {
           value = sym (ap verdict_number v);
-          lists_after = a ∙ ap (λ (x : Result (List (List ℕ)) Refusal). on_tables x (λ ts. lists_after ts cap lists) lists) same;
-          bytes_after = b ∙ ap (λ (x : Result (List (List ℕ)) Refusal). on_tables x (λ ts. cleared (most_variables ts) bytes) bytes) same;
-          words_after = w ∙ ap (λ (x : Result (List (List ℕ)) Refusal). on_tables x (λ ts. cleared (most_variables ts) words) words) same;
+          lists_after =
+              a ∙ ap (λ (x : Result (List (List ℕ)) Refusal). on_tables x (λ ts. lists_after ts cap lists) lists) same;
+          bytes_after =
+              b
+              ∙ ap (λ (x : Result (List (List ℕ)) Refusal).
+              on_tables x (λ ts. cleared (most_variables ts) bytes) bytes) same;
+          words_after =
+              w
+              ∙ ap (λ (x : Result (List (List ℕ)) Refusal).
+              on_tables x (λ ts. cleared (most_variables ts) words) words) same;
           answers_after = sym (ap (λ (x : Result (List (List ℕ)) Refusal). answers_for_c x cap out) v);
           tables_after = sym (ap (λ (x : Result (List (List ℕ)) Refusal). tables_for_c (end_of x cap) tables) v);
           left_after = sym (ap (λ (x : Result (List (List ℕ)) Refusal). left_for_c (end_of x cap) left) v);
@@ -155,13 +176,21 @@ module _ (parcel : List ℕ) (cap : ℕ) (lists bytes words : List ℕ) (own : L
         on_tables x (λ ts. answers_of ts cap ++ drop (length ts) own) own) t.verdict in
         record {
           value = sym (ap verdict_number v);
-          lists_after = a ∙ ap (λ (x : Result (List (List ℕ)) Refusal). on_tables x (λ ts. lists_after ts cap lists) lists) same;
-          bytes_after = b ∙ ap (λ (x : Result (List (List ℕ)) Refusal). on_tables x (λ ts. cleared (most_variables ts) bytes) bytes) same;
-          words_after = w ∙ ap (λ (x : Result (List (List ℕ)) Refusal). on_tables x (λ ts. cleared (most_variables ts) words) words) same;
+          lists_after =
+              a ∙ ap (λ (x : Result (List (List ℕ)) Refusal). on_tables x (λ ts. lists_after ts cap lists) lists) same;
+          bytes_after =
+              b
+              ∙ ap (λ (x : Result (List (List ℕ)) Refusal).
+              on_tables x (λ ts. cleared (most_variables ts) bytes) bytes) same;
+          words_after =
+              w
+              ∙ ap (λ (x : Result (List (List ℕ)) Refusal).
+              on_tables x (λ ts. cleared (most_variables ts) words) words) same;
           answers_after =
               g ∙ ap (λ (xs : List Answer). over end.tables (map for_c (xs ++ rest)) out) all
               ∙ front_answers t.ts cap end.tables (drop (length t.ts) own) rest out t.tables
               ∙ sym (ap (λ (x : Result (List (List ℕ)) Refusal). answers_for_c x cap out) v);
-          tables_after = t.tables ∙ sym (ap (λ (x : Result (List (List ℕ)) Refusal). tables_for_c (end_of x cap) tables) v);
+          tables_after =
+              t.tables ∙ sym (ap (λ (x : Result (List (List ℕ)) Refusal). tables_for_c (end_of x cap) tables) v);
           left_after = t.left ∙ sym (ap (λ (x : Result (List (List ℕ)) Refusal). left_for_c (end_of x cap) left) v);
         }

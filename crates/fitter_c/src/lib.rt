@@ -7,10 +7,15 @@ mod store;
 mod table_answer;
 
 ghost use Rattle.std.specs.Prelude.{◌≡◌, ◌↔◌, length};
-ghost use Rattle.batch.specs.Effect.{batch_in, room_verdict, end_of, on_tables, lists_after};
-ghost use Rattle.batch.specs.Batch.{most_variables};
-ghost use Rattle.repair.specs.Effect.{cleared};
-ghost use Rattle.fitter_c.specs.Answers.{answers_for_c, tables_for_c, left_for_c};
+ghost use Rattle.fitter_c.specs.Answers.{
+  parcel_verdict,
+  parcel_lists,
+  parcel_bytes,
+  parcel_words,
+  parcel_answers,
+  parcel_tables,
+  parcel_left,
+};
 ghost use Rattle.table.specs.Facts.{IsTable};
 ghost use Rattle.table.specs.Table.{table_of};
 ghost use Rattle.table.specs.Verdict.{verdict_number};
@@ -100,8 +105,8 @@ pub extern "C" fn fitter_read(text: &[u8], out: &mut [u8], length: &mut u64) -> 
     store_count(fitter::read(text, out).map(|k| k as u64), length)
 }
 
-// 0, an answer and a list for each table of the parcel, their number and what is left of the cap; or the refusal's
-// number, and nothing stored or written.
+/// 0, an answer and a list for each table of the parcel, their number and what is left of the cap; or the refusal's
+/// number, and nothing stored or written.
 #[unsafe(no_mangle)]
 pub extern "C" fn fitter_parcel(
     parcel: &[u8],
@@ -113,16 +118,15 @@ pub extern "C" fn fitter_parcel(
     tables: &mut u32,
     left: &mut u64,
 ) -> u32
-    ensures value { result ≡ verdict_number (room_verdict (batch_in parcel.now) (length lists.old) (length bytes.old) (length words.old) (length answers.old)) }
-    ensures lists_after { lists.new ≡ on_tables (room_verdict (batch_in parcel.now) (length lists.old) (length bytes.old) (length words.old) (length answers.old))
-        (λ ts. lists_after ts cap lists.old) lists.old }
-    ensures bytes_after { bytes.new ≡ on_tables (room_verdict (batch_in parcel.now) (length lists.old) (length bytes.old) (length words.old) (length answers.old))
-        (λ ts. cleared (most_variables ts) bytes.old) bytes.old }
-    ensures words_after { words.new ≡ on_tables (room_verdict (batch_in parcel.now) (length lists.old) (length bytes.old) (length words.old) (length answers.old))
-        (λ ts. cleared (most_variables ts) words.old) words.old }
-    ensures answers_after { answers.new ≡ answers_for_c (room_verdict (batch_in parcel.now) (length lists.old) (length bytes.old) (length words.old) (length answers.old)) cap answers.old }
-    ensures tables_after { tables.new ≡ tables_for_c (end_of (room_verdict (batch_in parcel.now) (length lists.old) (length bytes.old) (length words.old) (length answers.old)) cap) tables.old }
-    ensures left_after { left.new ≡ left_for_c (end_of (room_verdict (batch_in parcel.now) (length lists.old) (length bytes.old) (length words.old) (length answers.old)) cap) left.old }
+    ensures value { result
+        ≡ verdict_number (parcel_verdict parcel.now cap lists.old bytes.old words.old answers.old) }
+    ensures lists_after { lists.new ≡ parcel_lists parcel.now cap lists.old bytes.old words.old answers.old }
+    ensures bytes_after { bytes.new ≡ parcel_bytes parcel.now cap lists.old bytes.old words.old answers.old }
+    ensures words_after { words.new ≡ parcel_words parcel.now cap lists.old bytes.old words.old answers.old }
+    ensures answers_after { answers.new ≡ parcel_answers parcel.now cap lists.old bytes.old words.old answers.old }
+    ensures tables_after { tables.new
+        ≡ parcel_tables parcel.now cap lists.old bytes.old words.old answers.old tables.old }
+    ensures left_after { left.new ≡ parcel_left parcel.now cap lists.old bytes.old words.old answers.old left.old }
 {
     let mut own = [Answer::None {
         choices: 0,

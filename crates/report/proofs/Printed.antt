@@ -63,7 +63,10 @@ refusal_by n =
     (cond (eqb n 5610) NodeRecord
     (cond (eqb n 5710) ListForm
     (cond (eqb n 4948) ShortBuffer
-    (cond (eqb n 4949) NotTotal (cond (eqb n 4950) NoInitialKept (cond (eqb n 4951) RootFails (cond (eqb n 4954) UnreachedStep NotTables)))))))))))))
+    (cond (eqb n 4949) NotTotal
+    (cond (eqb n 4950) NoInitialKept
+    (cond (eqb n 4951) RootFails
+    (cond (eqb n 4954) UnreachedStep NotTables)))))))))))))
 
 abbrev refusal_in : List ℕ → Refusal
 refusal_in text = refusal_by (100 * get_or text 22 0 + get_or text 23 0)

@@ -1,5 +1,5 @@
--- `repair_batch` meets its contract: each way out has decided the tests up to its own, and the last one has repaired each
--- table.
+-- `repair_batch` meets its contract: each way out has decided the tests up to its own, and the last one has repaired
+-- each table.
 use Prim.Native.Nat.{ℕ, ◌≤◌, ◌<◌}
 use native.Mathlib.Omega.{arith}
 use mathlib.Core.Path.{◌≡◌, refl, sym, ap, subst, ◌∙◌}
@@ -50,7 +50,8 @@ pub returns-in_default : goal.returns-in_default
 returns-in_default c =
     let a = c.args in
     let none : c.measure.result ≡ None = search rules in
-    let v = not_cut a.tables.now a.cap a.lists.now a.bytes.now a.words.now a.answers.now (sym none ∙ c.measure.ensures) in
+    let v = not_cut a.tables.now a.cap a.lists.now a.bytes.now a.words.now a.answers.now
+    (sym none ∙ c.measure.ensures) in
     let g = given_by a.tables.now a.cap a.lists.now a.bytes.now a.words.now a.answers.now (Err NotTables) v in
     record {
       value = g.value;
@@ -91,7 +92,8 @@ returns-then-lists-needs c =
     let got : c.measure.result ≡ Some b = search rules in
     let some : ¬ (b.tables ≡ 0) = search rules in
     let e = sym got ∙ c.measure.ensures in
-    let Short : Type 0 = batch_verdict a.tables.now a.cap a.lists.now a.bytes.now a.words.now a.answers.now ≡ Err ShortBuffer in
+    let Short : Type 0 =
+    batch_verdict a.tables.now a.cap a.lists.now a.bytes.now a.words.now a.answers.now ≡ Err ShortBuffer in
     let v : Short = elim c.then-lists-needs.branch as (λ _. Short) [
       | then-lists-needs-via-then-lists-needs w ↦
           lists_short a.tables.now a.cap a.lists.now a.bytes.now a.words.now a.answers.now b e some (search rules)
@@ -136,7 +138,8 @@ returns c =
     let ok = long a.tables.now a.cap a.lists.now a.bytes.now a.words.now a.answers.now b e some l w v n in
     let g = given_by a.tables.now a.cap a.lists.now a.bytes.now a.words.now a.answers.now (Ok ts) ok in
     let each = c.repair_each-left.ensures in
-    let count : b.tables ≡ length ts = tables_are a.tables.now a.cap a.lists.now a.bytes.now a.words.now a.answers.now b e some in
+    let count : b.tables ≡ length ts =
+    tables_are a.tables.now a.cap a.lists.now a.bytes.now a.words.now a.answers.now b e some in
     record {
       value = (λ i. Ok (record { tables = count i; left = each.value i })) ∙ g.value;
       lists_after = each.lists_after ∙ g.lists_after;

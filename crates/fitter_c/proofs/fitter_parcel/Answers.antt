@@ -47,7 +47,8 @@ returns-in-Err c =
     let both = enough (length a.answers.now) c.min-room.result m in
     let got : c.repair_batch.result ≡ Err c.in-Err.refusal = search rules in
     let e = c.repair_batch.ensures in
-    let all = refused_clauses a.parcel.now a.cap a.lists.now a.bytes.now a.words.now (take c.min-room.result nothing_yet)
+    let all = refused_clauses a.parcel.now a.cap a.lists.now a.bytes.now a.words.now
+    (take c.min-room.result nothing_yet)
     a.answers.now c.min-room.result (lent_size (length a.answers.now) c.min-room.result m) both.0 both.1
     c.repair_batch.new.lists c.repair_batch.new.bytes c.repair_batch.new.words e.lists_after e.bytes_after e.words_after
     a.tables.now a.left.now c.in-Err.refusal (sym got ∙ e.value) in

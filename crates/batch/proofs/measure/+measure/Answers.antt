@@ -48,7 +48,8 @@ returns-in_err-table t c =
     let none : c.first_table.result ≡ None = search rules in
     let refused : ¬ (table_verdict (first_bytes rest) ≡ Ok tt) = subst (FirstTable rest) none c.first_table.ensures in
     gives
-    ∙ needs_refused (first_bytes rest) (table_verdict (first_bytes rest)) (tables_in (most - 1) (bytes_behind rest)) refused
+    ∙ needs_refused (first_bytes rest) (table_verdict (first_bytes rest)) (tables_in (most - 1) (bytes_behind rest))
+    refused
     ∙ ap needs_of (sym (tables_step most rest more some))
 
 pub returns-in_err-behind : goal.returns-in_err-behind

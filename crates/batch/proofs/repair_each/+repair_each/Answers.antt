@@ -123,12 +123,16 @@ overflow_sub-left t c =
     let all = all_is a.most a.rest.now one more some first table.passes c.requires.tables in
     let room : c.step_count.result ≤ length a.lists.now =
     omega (arith, all, c.requires.lists_room, c.step_count.ensures) in
-    let turn = its_turn one a.cap a.lists.now c.split_at_mut-list.result.0.now a.bytes.now a.words.now c.step_count.result
+    let turn = its_turn one a.cap a.lists.now c.split_at_mut-list.result.0.now a.bytes.now a.words.now
+    c.step_count.result
     table.passes c.step_count.ensures room c.split_at_mut-list.ensures.front
-    (first_fits a.most a.rest.now one more some first table.passes c.requires.tables (length a.bytes.now) c.requires.bytes_room)
-    (first_fits a.most a.rest.now one more some first table.passes c.requires.tables (length a.words.now) c.requires.words_room) in
+    (first_fits a.most a.rest.now one more some first table.passes c.requires.tables
+    (length a.bytes.now) c.requires.bytes_room)
+    (first_fits a.most a.rest.now one more some first table.passes c.requires.tables
+    (length a.words.now) c.requires.words_room) in
     let made : c.choices_of.result ≡ used one a.cap =
-    c.choices_of.ensures ∙ ap choices_in (c.repair_accepted-answer.ensures.value ∙ turn.answer) ∙ choices_used one a.cap in
+    c.choices_of.ensures ∙ ap choices_in (c.repair_accepted-answer.ensures.value ∙ turn.answer)
+    ∙ choices_used one a.cap in
     omega (arith, made, used_most one a.cap table.passes)
 
 pub repair_each-requires : goal.repair_each-requires
@@ -143,8 +147,10 @@ repair_each-requires t c =
     let there = behind_some a.most a.rest.now one more some first table.passes c.requires.tables in
     let all = all_is a.most a.rest.now one more some first table.passes c.requires.tables in
     let count = count_is a.most a.rest.now one more some first table.passes c.requires.tables in
-    let b = rest_fits a.most a.rest.now one more some first table.passes c.requires.tables (length a.bytes.now) c.requires.bytes_room in
-    let w = rest_fits a.most a.rest.now one more some first table.passes c.requires.tables (length a.words.now) c.requires.words_room in
+    let b = rest_fits a.most a.rest.now one more some first table.passes c.requires.tables
+    (length a.bytes.now) c.requires.bytes_room in
+    let w = rest_fits a.most a.rest.now one more some first table.passes c.requires.tables
+    (length a.words.now) c.requires.words_room in
     let lists_behind = ap length c.split_at_mut-list.ensures.back ∙ length-drop c.step_count.result a.lists.now in
     let answers_behind = ap length c.split_at_mut-own.ensures.back ∙ length-drop 1 a.answers.now in (
       omega (arith, c.decreases, more),
@@ -177,12 +183,14 @@ returns t c =
     let count = count_is a.most a.rest.now one more some first table.passes tabled in
     let room : c.step_count.result ≤ length a.lists.now =
     omega (arith, all, c.requires.lists_room, c.step_count.ensures) in
-    let turn = its_turn one a.cap a.lists.now c.split_at_mut-list.result.0.now a.bytes.now a.words.now c.step_count.result
+    let turn = its_turn one a.cap a.lists.now c.split_at_mut-list.result.0.now a.bytes.now a.words.now
+    c.step_count.result
     table.passes c.step_count.ensures room c.split_at_mut-list.ensures.front
     (first_fits a.most a.rest.now one more some first table.passes tabled (length a.bytes.now) c.requires.bytes_room)
     (first_fits a.most a.rest.now one more some first table.passes tabled (length a.words.now) c.requires.words_room) in
     let answer = c.repair_accepted-answer.ensures.value ∙ turn.answer in
-    let made : c.choices_of.result ≡ used one a.cap = c.choices_of.ensures ∙ ap choices_in answer ∙ choices_used one a.cap in
+    let made : c.choices_of.result ≡ used one a.cap =
+    c.choices_of.ensures ∙ ap choices_in answer ∙ choices_used one a.cap in
     let left = a.cap - c.choices_of.result in
     let left_is : left ≡ a.cap - used one a.cap = ap (λ (k : ℕ). a.cap - k) made in
     let T = table_of one in
@@ -191,7 +199,8 @@ returns t c =
     let back : c.split_at_mut-list.result.1.now ≡ drop (steps_in one) a.lists.now =
     c.split_at_mut-list.ensures.back ∙ ap (λ (k : ℕ). drop k a.lists.now) c.step_count.ensures in
     let e = c.repair_each.ensures in
-    let us = tables_or_none (tables_in (a.most - 1) (take (length a.rest.now - length one) (drop (length one) a.rest.now))) in
+    let us = tables_or_none
+    (tables_in (a.most - 1) (take (length a.rest.now - length one) (drop (length one) a.rest.now))) in
     record {
       value = e.value ∙ left_turn a.most a.rest.now one more some first table.passes tabled a.cap left left_is;
       lists_after =
