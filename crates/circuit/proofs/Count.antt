@@ -1,30 +1,22 @@
 -- How many variables a table has: as many as the formula says, and never more than 223392.
-use Prim.Native.Nat.{ℕ, zero, suc, ◌+◌, ◌*◌, ◌≤◌, ◌<◌, suc-le-suc}
-use native.Mathlib.Nat.{
-  zero-add,
-  zero-mul,
-  suc-mul,
-  mul-zero,
-  mul-one,
-  mul_comm,
-  mul-le-mul,
-  not-suc-le-zero,
-  le_of_suc-le-suc,
-}
+use Prim.Native.Nat.{ℕ, zero, suc, ◌+◌, ◌*◌, ◌≤◌}
+use native.Mathlib.Nat.{mul-one, mul_comm, mul-le-mul, not-suc-le-zero}
 use native.Mathlib.Omega.{arith}
 use mathlib.Core.Path.{◌≡◌, refl, sym, ap, ap₂, ◌∙◌}
 use mathlib.Core.Bool.{Bool, true, false, cond}
 use mathlib.Core.List.{List, [], ◌∷◌, ◌++◌, map}
-use lib.Dec.{eqb, eqb-suc-suc, eqb-zero-suc, eqb-suc-zero}
+use lib.Dec.{eqb}
 use lib.ListN.{length, get_or, length-append, length-map}
 use Rattle.table.specs.declared.record.Node.{Node}
 use Rattle.table.specs.declared.record.Step.{Step}
 use Rattle.table.specs.declared.operator.Family.{Family}
 use Rattle.table.specs.declared.operator.Family.TheVariants.{Release, Until, Eventually, Always}
-use Rattle.table.specs.Table.{Table, zero_step, zero_node, node_at}
+use Rattle.table.specs.Table.{Table, zero_step, zero_node, step_at, node_at}
 use Rattle.table.specs.Facts.{Wellformed}
 use Rattle.ctl.specs.Rule.{Operator, constant, atom, negation, conjunction, disjunction, next, fixpoint, operator_of}
 use Rattle.ctl.specs.Range.{tabulate, below}
+use Rattle.ctl.specs.Price.{sum_below}
+use Rattle.ctl.proofs.Sums.{sum_cong, sum_low, sum_add, sum_constant, sum_grouped}
 use Rattle.ctl.proofs.Tabulate.{length_tabulate}
 use Rattle.ctl.proofs.BottomUp.{Below, children_below}
 use Rattle.circuit.specs.Variables.{
@@ -46,41 +38,6 @@ use Rattle.circuit.specs.Variables.{
   costs,
   variable_formula,
 }
-use Rattle.circuit.proofs.Cost.{own_few}
-
--- ---- sums
-
--- f 0 + .. + f (n - 1)
-sum : ℕ → (ℕ → ℕ) → ℕ
-sum zero f = 0
-sum (suc n) f = f zero + sum n (λ k. f (suc k))
-
-sum_cong : (n : ℕ) (f g : ℕ → ℕ) → ((k : ℕ) → k < n → f k ≡ g k) → sum n f ≡ sum n g
-unfolding sum
-sum_cong zero f g e = refl
-sum_cong (suc n) f g e = ap₂ ◌+◌ (e zero (omega arith)) (sum_cong n _ _ (λ k h. e (suc k) (suc-le-suc h)))
-
-sum-add : (n : ℕ) (f g : ℕ → ℕ) → sum n (λ k. f k + g k) ≡ sum n f + sum n g
-unfolding sum
-sum-add zero f g = refl
-sum-add (suc n) f g = omega (arith, sum-add n (λ k. f (suc k)) (λ k. g (suc k)))
-
-sum_constant : (n c : ℕ) → sum n (λ k. c) ≡ n * c
-unfolding sum
-sum_constant zero c = sym (zero-mul c)
-sum_constant (suc n) c = omega (arith, sum_constant n c, suc-mul n c)
-
-abbrev mark : Bool → ℕ
-mark b = cond b 1 0
-
--- one number below n is a
-sum_one : (n a : ℕ) → a < n → sum n (λ s. mark (eqb a s)) ≡ 1
-unfolding sum
-sum_one zero a h = absurd (not-suc-le-zero h)
-sum_one (suc n) zero h =
-    omega (arith, sum_cong n _ (λ k. 0) (λ k l. ap mark (eqb-zero-suc k)), sum_constant n 0, mul-zero n)
-sum_one (suc n) (suc a) h = rw (eqb-suc-zero a)
-    (zero-add _ ∙ sum_cong n _ _ (λ k l. ap mark (eqb-suc-suc a k)) ∙ sum_one n a (le_of_suc-le-suc h))
 
 -- ---- the sizes of lists
 
@@ -90,43 +47,44 @@ one_each n f = length-map (below n) f ∙ length_tabulate n (λ k. k)
 
 -- the sizes of the parts add up to the size of the whole
 length-concat : {A : Type 0} (n : ℕ) (f : ℕ → List A) (g : ℕ → ℕ)
-    → length (concat (map f (tabulate n g))) ≡ sum n (λ k. length (f (g k)))
-unfolding sum tabulate concat
+    → length (concat (map f (tabulate n g))) ≡ sum_below n (λ k. length (f (g k)))
+unfolding sum_below tabulate concat
 length-concat zero f g = refl
 length-concat (suc n) f g =
-    length-append (f (g zero)) _ ∙ ap (λ (k : ℕ). length (f (g zero)) + k) (length-concat n f (λ k. g (suc k)))
+    length-append (f (g zero)) _
+    ∙ ap (λ (k : ℕ). length (f (g zero)) + k) (length-concat n f (λ k. g (suc k)))
+    ∙ sym (sum_low n (λ k. length (f (g k))))
 
 -- ---- the steps out of the states
 
--- a step is out of one state
+-- as many as are from the state
 out_size : (j : ℕ) (x : Step) (xs : List Step) (s : ℕ)
-    → length (out_of j (x ∷ xs) s) ≡ mark (eqb x.from s) + length (out_of (suc j) xs s)
+    → length (out_of j (x ∷ xs) s) ≡ cond (eqb x.from s) 1 0 + length (out_of (suc j) xs s)
 unfolding out_of
 out_size j x xs s = go (eqb x.from s)
   where
     go : (b : Bool) → length (cond b (j ∷ out_of (suc j) xs s) (out_of (suc j) xs s))
-        ≡ mark b + length (out_of (suc j) xs s)
+        ≡ cond b 1 0 + length (out_of (suc j) xs s)
     go true = omega arith
     go false = omega arith
 
--- so their sizes over the states add up to the number of steps
-out_sizes : (n j : ℕ) (xs : List Step) → ((k : ℕ) → k < length xs → (get_or xs k zero_step).from < n)
-    → sum n (λ s. length (out_of j xs s)) ≡ length xs
-unfolding out_of
-out_sizes n j [] inside = sum_constant n 0 ∙ mul-zero n
-out_sizes n j (x ∷ xs) inside =
-    sum_cong n _ _ (λ s h. out_size j x xs s)
-    ∙ sum-add n _ _
-    ∙ omega (
-      arith,
-      sum_one n x.from (inside zero (omega arith)),
-      out_sizes n (suc j) xs (λ k h. inside (suc k) (suc-le-suc h)),
-    )
+out_count : (j : ℕ) (xs : List Step) (s : ℕ)
+    → length (out_of j xs s) ≡ sum_below (length xs) (λ k. cond (eqb (get_or xs k zero_step).from s) 1 0)
+unfolding out_of sum_below
+out_count j [] s = refl
+out_count j (x ∷ xs) s =
+    out_size j x xs s
+    ∙ ap (λ (k : ℕ). cond (eqb x.from s) 1 0 + k) (out_count (suc j) xs s)
+    ∙ sym (sum_low (length xs) (λ k. cond (eqb (get_or (x ∷ xs) k zero_step).from s) 1 0))
 
 module _ (T : Table) (wf : Wellformed T) where
-  -- the steps out of the states are all steps
-  steps_out_count : sum (length T.states) (λ s. length (steps_out T s)) ≡ length T.steps
-  steps_out_count = out_sizes (length T.states) 0 T.steps wf.from_state
+  -- the steps out of the states are all steps, each out of one
+  steps_out_count : sum_below (length T.states) (λ s. length (steps_out T s)) ≡ length T.steps
+  steps_out_count =
+      sum_cong (length T.states) _ _ (λ s h. out_count 0 T.steps s)
+      ∙ sum_grouped (length T.states) (length T.steps) (λ j. (step_at T j).from) (λ j. 1) wf.from_state
+      ∙ sum_constant (length T.steps) 1
+      ∙ mul-one (length T.steps)
 
   -- a variable for each step, and c for each state
   level_count : (edges : ℕ → Var) (c : ℕ) (rest : ℕ → List Var) → ((s : ℕ) → length (rest s) ≡ c)
@@ -136,7 +94,7 @@ module _ (T : Table) (wf : Wellformed T) where
       length-concat (length T.states) _ _
       ∙ sum_cong (length T.states) _ _ (λ s h.
       length-append (map edges (steps_out T s)) (rest s) ∙ ap₂ ◌+◌ (length-map (steps_out T s) edges) (size s))
-      ∙ sum-add (length T.states) _ _
+      ∙ sum_add (length T.states) _ _
       ∙ ap₂ ◌+◌ steps_out_count (sum_constant (length T.states) c)
 
   -- N, G where there is one, and the level
@@ -164,11 +122,13 @@ module _ (T : Table) (wf : Wellformed T) where
       ∙ ap (λ (k : ℕ). length T.states * (length T.steps + k)) (mul_comm (length T.states) (own_count f)))
 
 -- the costs of the nodes add up
-costs-sum : (n e : ℕ) (xs : List Node)
-    → sum (length xs) (λ i. cost_of n e (operator_of (get_or xs i zero_node))) ≡ costs n e xs
-unfolding sum costs
+pub costs-sum : (n e : ℕ) (xs : List Node)
+    → sum_below (length xs) (λ i. cost_of n e (operator_of (get_or xs i zero_node))) ≡ costs n e xs
+unfolding sum_below costs
 costs-sum n e [] = refl
-costs-sum n e (x ∷ xs) = ap (λ (k : ℕ). cost_of n e (operator_of x) + k) (costs-sum n e xs)
+costs-sum n e (x ∷ xs) =
+    sum_low (length xs) (λ i. cost_of n e (operator_of (get_or (x ∷ xs) i zero_node)))
+    ∙ ap (λ (k : ℕ). cost_of n e (operator_of x) + k) (costs-sum n e xs)
 
 -- A table has as many variables as the formula says.
 pub count_formula : (T : Table) → Wellformed T → variable_count T ≡ variable_formula T
@@ -183,6 +143,13 @@ count_formula T wf =
     ∙ costs-sum (length T.states) (length T.steps) T.nodes)
 
 -- ---- how many they are at most
+
+-- a level has at most three variables at one state, beside its step gates
+own_few : (f : Family) → own_count f ≤ 3
+own_few Release = omega arith
+own_few Until = omega arith
+own_few Eventually = omega arith
+own_few Always = omega arith
 
 -- a node's cost in a table of at most 32 states and 128 steps
 cost_most : (n e : ℕ) → n ≤ 32 → e ≤ 128 → (o : Operator) → cost_of n e o ≤ 7200

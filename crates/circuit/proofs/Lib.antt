@@ -2,7 +2,7 @@ pub mod Lists
 pub mod Quantified
 pub mod NoRepeat
 pub mod Count
-pub mod Cost
+pub mod Tallied
 pub mod Exact
 pub mod Gate
 pub mod Outputs

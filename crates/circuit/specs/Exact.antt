@@ -1,12 +1,14 @@
--- What the circuit of a table promises: its models are the repairs, and its variables can be told apart by their
--- numbers.
-use Rattle.std.specs.Prelude.{ℕ, ◌≤◌, ◌<◌, ◌≡◌, Bool, List, length, get_or, eqb}
+-- What the circuit of a table promises: its models are the repairs, its variables can be told apart by their numbers,
+-- and four tallies of the nodes tell how many they are.
+use Rattle.std.specs.Prelude.{ℕ, ◌+◌, ◌≤◌, ◌<◌, ◌≡◌, Bool, List, length, get_or, eqb}
 use mathlib.Core.List.{Memᴰ}
 use Rattle.table.specs.Table.{Table}
 use Rattle.table.specs.Facts.{Wellformed}
 use Rattle.ctl.specs.Kept.{IsList, Repair}
 use Rattle.circuit.specs.Logic.{Satisfies}
 use Rattle.circuit.specs.Variables.{Var, step, variables, variable_count, variable_formula}
+use Rattle.circuit.specs.declared.tallies.Tallies.{Tallies}
+use Rattle.circuit.specs.Tally.{tallied}
 use Rattle.circuit.specs.Clauses.{gates_clauses, clauses}
 
 -- α says of each step whether the list keeps it
@@ -40,3 +42,9 @@ pub record VariablesAreNumbered (T : Table) : Type 0 where
 
 abbrev pub VariablesAreTheNumbers : Type 0
 VariablesAreTheNumbers = (T : Table) → Wellformed T → VariablesAreNumbered T
+
+pub record TalliesAreRight (T : Table) (t : Tallies) : Type 0 where
+  -- each node is in one tally,
+  pub all_nodes : t.plain + t.next + t.paired + t.single ≡ length T.nodes
+  -- and e + n and each tally times its cost add up to V
+  pub add_up : tallied (length T.states) (length T.steps) t ≡ variable_count T

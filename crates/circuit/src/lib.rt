@@ -2,7 +2,9 @@
 #![tactic(auto)]
 
 mod laws;
+mod tallies;
 mod variables;
 
 pub use laws::{models_are_the_repairs, variables_are_the_numbers};
+pub use tallies::{Tallies, tallies_of};
 pub use variables::variable_count;

@@ -1,30 +1,32 @@
-// The number of variables of a table's circuit.
-ghost use Rattle.std.specs.Prelude.{◌≡◌, ◌≤◌};
+// The number of variables of a table's circuit, by the tallies of its nodes.
+ghost use Rattle.std.specs.Prelude.{◌≡◌, ◌≤◌, ◌+◌, ◌*◌};
 ghost use Rattle.table.specs.Table.{table_of};
-ghost use Rattle.circuit.specs.Variables.{cost_of, own_count, variable_count, variable_formula};
+ghost use Rattle.circuit.specs.Variables.{variable_count, variable_formula};
+ghost use Rattle.circuit.specs.Tally.{tallied};
 
-use table::{Accepted, Family, Operator};
+use crate::tallies::{Tallies, tallies_of};
+use table::Accepted;
 
-// How many variables a level of a fixed point has at each state.
-fn own_count(family: Family) -> usize
-    ensures { result ≡ own_count family }
+// How many variables a node with levels has, with n states, e steps and so many variables of its own at each state of
+// a level above 0.
+fn levels_cost(n: usize, e: usize, own: usize) -> usize
+    requires { (n ≤ 32) × (e ≤ 128) × (own ≤ 3) }
+    ensures value { result ≡ n + n * (e + own * n) }
+    ensures few { result ≤ 7200 }
 {
-    match family {
-        Family::Release | Family::Until => 3,
-        Family::Eventually | Family::Always => 2,
-    }
+    n + n * (e + own * n)
 }
 
-// How many variables a node has, with n states and e steps.
-fn node_cost(operator: Operator, n: usize, e: usize) -> usize
-    requires { (n ≤ 255) × (e ≤ 255) }
-    ensures { result ≡ cost_of n e operator }
+// How many variables a table has, with n states, e steps and so many nodes of each tally.
+fn variables_of(n: usize, e: usize, nodes: Tallies) -> usize
+    requires { (n ≤ 32) × (e ≤ 128) × (nodes.plain + nodes.next + nodes.paired + nodes.single ≤ 32) }
+    ensures { result ≡ tallied n e nodes }
 {
-    match operator {
-        Operator::Next(_, _) => e + n,
-        Operator::Fixpoint(family, _, _, _) => n + n * (e + own_count(family) * n),
-        _ => n,
-    }
+    e + n
+        + nodes.plain * n
+        + nodes.next * (e + n)
+        + nodes.paired * levels_cost(n, e, 3)
+        + nodes.single * levels_cost(n, e, 2)
 }
 
 /// V: how many variables the circuit of a table has.
@@ -32,11 +34,5 @@ pub fn variable_count(table: &Accepted<'_>) -> usize
     ensures formula { result ≡ variable_formula (table_of table.now.bytes.now) }
     ensures counted { result ≡ variable_count (table_of table.now.bytes.now) }
 {
-    let n = table.state_count();
-    let e = table.step_count();
-    let mut sum = e + n;
-    for i in 0..table.node_count() {
-        sum += node_cost(Operator::from(table.node(i)), n, e);
-    }
-    sum
+    variables_of(table.state_count(), table.step_count(), tallies_of(table))
 }

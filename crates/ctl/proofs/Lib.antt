@@ -5,6 +5,7 @@ pub mod Stable
 pub mod Paths
 pub mod Fixpoint
 pub mod Rank
+pub mod Sums
 pub mod Price
 pub mod BottomUp
 pub mod Targets

@@ -8,7 +8,8 @@ use Rattle.table.specs.declared.record.Step.{Step}
 use Rattle.table.specs.Table.{Table, table_of, step_at}
 use Rattle.table.proofs.Facts.{accepted}
 use Rattle.ctl.specs.Price.{sum_below}
-use Rattle.ctl.proofs.Price.{sum_next, cond_most}
+use Rattle.ctl.proofs.Sums.{sum_next}
+use Rattle.ctl.proofs.Price.{cond_most}
 use Rattle.rows.specs.Steps.{step_bit}
 use Rattle.search.proofs.StepEnds.{from_below}
 use Rattle.search.proofs.step_rows.struck_price.Invariants.{cost}
