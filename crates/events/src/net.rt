@@ -11,7 +11,7 @@ use readers::readers_of;
 use table::{Accepted, MOST_NODES, initial_states, target_sets};
 
 /// The table, its states and steps and who reads what, its initial states, and where the rows of the levels lie.
-#[derive(Drop)]
+#[derive(Clone, Copy)]
 pub struct Net<'a> {
     pub table: Accepted<'a>,
     pub graph: Graph,

@@ -1,3 +1,4 @@
 pub mod Judged
 pub mod Front
 pub mod Parcel
+pub mod Stored

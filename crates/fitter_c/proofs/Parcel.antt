@@ -1,7 +1,7 @@
 -- What C gets of a batch, by what the call with types gives.
 use Prim.Native.Nat.{ℕ, ◌≤◌}
 use native.Mathlib.Omega.{arith}
-use mathlib.Core.Path.{◌≡◌, refl, sym, ap, subst, ◌∙◌}
+use mathlib.Core.Path.{◌≡◌, refl, sym, ap, ◌∙◌}
 use mathlib.Core.Bool.{Bool, true, false, ◌&&◌}
 use mathlib.Core.Logic.{◌⊎◌, inl, inr}
 use mathlib.Core.List.{List, ◌++◌, map, append_assoc}
@@ -23,7 +23,6 @@ use Rattle.batch.specs.Effect.{
   answers_of,
   lists_after,
   left_after,
-  room_for,
   room_verdict,
   end_of,
   on_tables,

@@ -26,7 +26,15 @@ ghost use Rattle.reader.specs.Read.{read_answer, read_buffer};
 ghost use Rattle.search.specs.Answer.{answer_number};
 ghost use Rattle.repair.specs.Right.{LongEnough, RepairIsRight};
 ghost use Rattle.repair.specs.Effect.{repair_answer, repair_list, repair_bytes, repair_words};
-ghost use Rattle.fitter_c.specs.Exports.{holding_count, read_length, repair_choices, repair_price, repair_settled};
+ghost use Rattle.fitter_c.specs.Exports.{
+  holding_count,
+  read_length,
+  repair_choices,
+  repair_price,
+  repair_settled,
+  RepairStores,
+  NumberStored,
+};
 
 use fitter::{Answer, MOST_TABLES};
 use store::{store_answer, store_count};
@@ -34,6 +42,7 @@ use table_answer::{TableAnswer, store_answers};
 
 /// 0 found, 14 none or 15 spent, and the choices, the price and the settled steps stored; or the refusal's number and
 /// nothing stored or written.
+#[tactic(auto, using(crate::proofs::Stored::repair_stores))]
 #[unsafe(no_mangle)]
 pub extern "C" fn fitter_repair(
     table: &[u8],
@@ -55,6 +64,9 @@ pub extern "C" fn fitter_repair(
         ≡ repair_price (repair_answer table.now cap list.old bytes.old words.old) price.old }
     ensures settled_after { settled.new
         ≡ repair_settled (repair_answer table.now cap list.old bytes.old words.old) settled.old }
+    // the three numbers by cases of the answer: a refusal leaves them as they were
+    ensures stored { RepairStores (repair_answer table.now cap list.old bytes.old words.old) choices.old price.old
+        settled.old choices.new price.new settled.new }
     ensures right { LongEnough table.now list.old bytes.old words.old
         → RepairIsRight table.now cap (repair_answer table.now cap list.old bytes.old words.old) list.old list.new }
 {
@@ -86,21 +98,25 @@ pub extern "C" fn fitter_label(table: &[u8], list: &[u8], out: &mut [u32]) -> u3
 }
 
 /// 0, the states of the root's set in reading order and their count, or the refusal's number and nothing written.
+#[tactic(auto, using(crate::proofs::Stored::number_stored))]
 #[unsafe(no_mangle)]
 pub extern "C" fn fitter_holding(table: &[u8], list: &[u8], out: &mut [u8], count: &mut u32) -> u32
     ensures value { result ≡ verdict_number (holding_answer table.now list.now (length out.old)) }
     ensures out_after { out.new ≡ holding_buffer table.now list.now out.old }
     ensures count_after { count.new ≡ holding_count (holding_answer table.now list.now (length out.old)) count.old }
+    ensures stored { NumberStored (holding_answer table.now list.now (length out.old)) count.old count.new }
 {
     store_count(fitter::holding_states(table, list, out), count)
 }
 
 /// 0, the packed table of the sheet written and its length stored, or the refusal's number and nothing written.
+#[tactic(auto, using(crate::proofs::Stored::number_stored))]
 #[unsafe(no_mangle)]
 pub extern "C" fn fitter_read(text: &[u8], out: &mut [u8], length: &mut u64) -> u32
     ensures value { result ≡ verdict_number (read_answer text.now out.old) }
     ensures out_after { out.new ≡ read_buffer text.now out.old }
     ensures length_after { length.new ≡ read_length (read_answer text.now out.old) length.old }
+    ensures stored { NumberStored (read_answer text.now out.old) length.old length.new }
 {
     store_count(fitter::read(text, out).map(|k| k as u64), length)
 }

@@ -6,7 +6,7 @@ use mathlib.Core.Logic.{◌↔◌, inl, inr}
 use mathlib.Core.List.{List, ◌++◌}
 use native.Mathlib.Decide.{dec_lt}
 use native.Mathlib.Omega.{arith}
-use lib.ListN.{length, drop}
+use lib.ListN.{length, take, drop}
 use Rattle.std.specs.Prelude.{Option, Some, None, Result, Ok, Err, IsOk, IfOk, IfErr}
 use Rattle.table.specs.declared.refusal.Refusal.{Refusal}
 use Rattle.table.specs.declared.refusal.Refusal.TheVariants.{SheetForm, Length, ShortBuffer}
@@ -24,7 +24,7 @@ use Rattle.table.proofs.Buffer.{front_written}
 use Rattle.sheet.specs.Form.{Sheet, InRange, IsSheet}
 use Rattle.sheet.specs.Parse.{parse}
 use Rattle.sheet.proofs.Whole.{parse_exact, sheet_parses, none_some}
-use Rattle.reader.specs.Read.{pack, packed, read_result, read_verdict, ReadInto}
+use Rattle.reader.specs.Read.{pack, packed, read_result, read_verdict, PackedText, ReadInto}
 use Rattle.reader.specs.Exact.{SheetOf, Readable, ReadIsExact, TextRefused, ReadRefused}
 use Rattle.reader.proofs.PackedSheet.{pack-length, counts_pack}
 use Rattle.reader.proofs.ReadGives.{not_of_form, table_refused, too_short, accepted_read}
@@ -183,8 +183,13 @@ module _ (text : List ℕ) (v : Sheet) (e : parse text ≡ Some v) (bytes : List
   by_tests_of (Ok a) f = (room_enough text v e ((is_table (pack v)).1 f.1), f.0 ∙ ap packed (sym e))
   by_tests_of (Err r) f = table_refused text 580 v e r f.0
 
-  pub tested_into : (r : Result Accepted Refusal) → AcceptedFrom bytes r → ReadInto text r
+  tested_into : (r : Result Accepted Refusal) → AcceptedFrom bytes r → ReadInto text r
   tested_into r f = by_tests_of r (subst (λ (l : List ℕ). AcceptedFrom l r) same f)
+
+-- the same of what a text was packed to
+pub packed_tested : (text bytes : List ℕ) (n : ℕ) → PackedText text bytes (Ok n) → (r : Result Accepted Refusal)
+    → AcceptedFrom (take n bytes) r → ReadInto text r
+packed_tested text bytes n (few, (w, e, same)) r f = tested_into text w e (take n bytes) same r f
 
 -- why it was refused, and which table was read
 pub into_refused : (text : List ℕ) (r : Result Accepted Refusal) → ReadInto text r → IfErr r (TextRefused text)

@@ -1,6 +1,7 @@
 -- A sheet into a packed table. Tests 1, 3 to 8 and 10, and what is answered and written.
 use Rattle.std.specs.Prelude.{
   ℕ,
+  ◌≤◌,
   ◌/◌,
   ◌%◌,
   ◌≡◌,
@@ -10,6 +11,7 @@ use Rattle.std.specs.Prelude.{
   ◌++◌,
   leb,
   length,
+  take,
   drop,
   Option,
   Some,
@@ -83,6 +85,11 @@ read_answer text out = read_result (read_verdict text (length out)) (packed (par
 
 abbrev pub read_buffer : List ℕ → List ℕ → List ℕ
 read_buffer text out = filled (read_verdict text (length out)) (packed (parse text)) out
+
+-- what a text is packed to, at the front of bytes that were zero: so many bytes, at most 580, or why it is not packed
+abbrev pub PackedText : List ℕ → List ℕ → Result ℕ Refusal → Type 0
+PackedText text bytes (Ok n) = (n ≤ 580) × ((v : Sheet) × (parse text ≡ Some v) × (take n bytes ≡ pack v))
+PackedText text bytes (Err r) = read_verdict text 580 ≡ Err r
 
 -- what was read into bytes of the longest table's length, 580, where every accepted table has room: the packed table,
 -- or the refusal

@@ -1,7 +1,7 @@
 // Read: a sheet into a packed table.
 ghost use Rattle.std.specs.Prelude.{◌≡◌, ◌↔◌, length, replicate, IsOk, OnErr, IfErr, IfOk};
 ghost use Rattle.table.specs.Facts.{IsTable};
-ghost use Rattle.reader.specs.Read.{read_answer, read_buffer, ReadInto};
+ghost use Rattle.reader.specs.Read.{read_answer, read_buffer, PackedText, ReadInto};
 ghost use Rattle.reader.specs.Exact.{SheetOf, Readable, ReadIsExact, TextRefused, ReadRefused};
 
 use crate::pack::pack_sheet;
@@ -11,14 +11,11 @@ use table::{Accepted, Refusal, packed_length};
 /// How many bytes the longest table has: 32 states, 128 steps and 32 nodes.
 pub const LONGEST: usize = 580;
 
-/// Reads a sheet into zero bytes that the caller lends, and tests the table there. The answer borrows these bytes.
 // Test 1 first, over the whole text. A table longer than the longest has a count out of its range, 3. Else the values
-// are packed, and 2 to 8 are tested on the table, which is cut into its sections once.
-pub fn read_into<'a>(text: &[u8], packed: &'a mut [u8; LONGEST]) -> Result<Accepted<'a>, Refusal>
+// are packed, and it answers how many bytes they fill.
+fn pack_text(text: &[u8], packed: &mut [u8; LONGEST]) -> Result<usize, Refusal>
     requires { packed.old ≡ replicate LONGEST 0 }
-    ensures value { ReadInto text.now result }
-    ensures refused { IfErr result (TextRefused text.now) }
-    ensures packed { IfOk result (λ table. SheetOf text.now table.bytes.now × IsTable table.bytes.now) }
+    ensures { PackedText text.now packed.new result }
 {
     let Some(form) = check_form(text) else {
         return Err(Refusal::SheetForm);
@@ -28,13 +25,26 @@ pub fn read_into<'a>(text: &[u8], packed: &'a mut [u8; LONGEST]) -> Result<Accep
         return Err(Refusal::Counts);
     }
     pack_sheet(&form, packed);
+    Ok(length)
+}
+
+/// Reads a sheet into zero bytes that the caller lends, and tests the table there, 2 to 8, which is cut into its
+/// sections once. The answer borrows these bytes.
+pub fn read_into<'a>(text: &[u8], packed: &'a mut [u8; LONGEST]) -> Result<Accepted<'a>, Refusal>
+    requires { packed.old ≡ replicate LONGEST 0 }
+    ensures value { ReadInto text.now result }
+    ensures refused { IfErr result (TextRefused text.now) }
+    ensures packed { IfOk result (λ table. SheetOf text.now table.bytes.now × IsTable table.bytes.now) }
+{
+    let length = pack_text(text, packed)?;
     let table: &'a [u8] = &packed[..length];
     Accepted::try_from(table)
 }
 
 /// Reads a sheet into a packed table at the front of the lent buffer, and answers how many bytes it has: at most 580.
 // The reader packs into zero bytes of its own, as many as the longest table, before it writes: 10 is tested last, and
-// only then the lent buffer is written.
+// only then the lent buffer is written. It copies from its own bytes, not from what `read_into` would hand back: of
+// these the compiler knows that they lie apart from the lent ones, so the archive for C needs no `memmove`.
 pub fn read(text: &[u8], out: &mut [u8]) -> Result<usize, Refusal>
     ensures value { result ≡ read_answer text.now out.old }
     ensures out_after { out.new ≡ read_buffer text.now out.old }
@@ -44,7 +54,9 @@ pub fn read(text: &[u8], out: &mut [u8]) -> Result<usize, Refusal>
     ensures untouched { OnErr result (out.new ≡ out.old) }
 {
     let mut packed = [0u8; LONGEST];
-    let table = read_into(text, &mut packed)?.bytes;
+    let length = pack_text(text, &mut packed)?;
+    let table = &packed[..length];
+    Accepted::try_from(table)?;
     if out.len() < table.len() {
         return Err(Refusal::ShortBuffer);
     }

@@ -1,3 +1,4 @@
+pub mod Once
 pub mod Samples
 pub mod Families
 pub mod Prices

@@ -63,7 +63,8 @@ use Rattle.search.proofs.Right.{search_is_right}
 use Rattle.repair.specs.Effect.{repair_verdict, written_after, answer_at, repair_answer, repair_list}
 use Rattle.repair.specs.Right.{LongEnough}
 use Rattle.repair.proofs.Refusals.{fits}
-use Rattle.samples.specs.Samples.{answers, passes, priced}
+use Rattle.samples.proofs.Once.{ends, once, all_pass}
+use Rattle.samples.specs.Samples.{searches, answers, passes, priced}
 use Rattle.samples.specs.Prices.{SheetAt, SheetAtAnyPrices, price_cases}
 
 -- ---- the sheet
@@ -145,6 +146,9 @@ module _ (p q r s : ℕ) where
       same_code
   struck = refl
 
+  struck_list : strike T (list_of T first_find) ≡ 1 ∷ 1 ∷ 0 ∷ 0 ∷ []
+  struck_list = ap (strike T) its_list ∙ struck
+
   is_accepted : table_verdict (priced p q r s) ≡ Ok tt
   unfolding member records all any distinct nodes_fit table_verdict
   is_accepted = refl
@@ -187,9 +191,11 @@ module _ (p q r s : ℕ) where
     found_from_6 = λ cap h list bytes words g.
         let e = found_under cap h in (
           answered cap list bytes words g (found first_find r 6 1) e,
-          written cap list bytes words g first_find r 6 1 e ∙ ap (strike T) its_list ∙ struck,
+          written cap list bytes words g first_find r 6 1 e ∙ struck_list,
         );
     spent_below_6 = λ cap h list bytes words g. answered cap list bytes words g (spent cap 1) (spent_under cap h);
+    chosen_from_6 = λ cap h. (first_find, found_under cap h, its_list, struck_list);
+    cut_below_6 = spent_under;
   }
 
 pub sheet_at_any_prices : SheetAtAnyPrices
@@ -201,6 +207,6 @@ pub prices_pass : all passes price_cases ≡ true
 unfolding member count_of records all any distinct nodes_fit table_verdict list_verdict bottom_up tabulate iterate
     next_in level levels kept_steps ends_from label_of label sum_below reached_set strike judge_verdict gate_clauses
     concat out_of node_variables variables node_gates gates select demands clauses open_in take_clause round rounds
-    marks_of walk search same_code place numbered_clauses table_search answers passes costs variable_formula
-    repair_verdict
-prices_pass = refl
+    marks_of walk search same_code place numbered_clauses table_search ends once searches answers passes costs
+    variable_formula repair_verdict
+prices_pass = all_pass price_cases refl

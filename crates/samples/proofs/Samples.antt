@@ -20,12 +20,13 @@ use Rattle.search.specs.Search.{walk, search}
 use Rattle.closure.specs.Numbered.{same_code, place, numbered_clauses}
 use Rattle.search.specs.TableSearch.{table_search}
 use Rattle.repair.specs.Effect.{repair_verdict}
-use Rattle.samples.specs.Samples.{answers, passes, cases}
+use Rattle.samples.proofs.Once.{ends, once, all_pass}
+use Rattle.samples.specs.Samples.{searches, answers, passes, cases}
 
 pub samples_pass : all passes cases ≡ true
 unfolding member count_of records all any distinct nodes_fit table_verdict list_verdict bottom_up tabulate iterate
     next_in level levels kept_steps ends_from label_of label sum_below reached_set strike judge_verdict gate_clauses
     concat out_of node_variables variables node_gates gates select demands clauses open_in take_clause round rounds
-    marks_of walk search same_code place numbered_clauses table_search answers passes costs variable_formula
-    repair_verdict
-samples_pass = refl
+    marks_of walk search same_code place numbered_clauses table_search ends once searches answers passes costs
+    variable_formula repair_verdict
+samples_pass = all_pass cases refl

@@ -18,12 +18,13 @@ use Rattle.search.specs.Search.{walk, search}
 use Rattle.closure.specs.Numbered.{same_code, place, numbered_clauses}
 use Rattle.search.specs.TableSearch.{table_search}
 use Rattle.repair.specs.Effect.{repair_verdict}
-use Rattle.samples.specs.Samples.{answers, passes}
+use Rattle.samples.proofs.Once.{ends, once, all_pass}
+use Rattle.samples.specs.Samples.{searches, answers, passes}
 use Rattle.samples.specs.Settled.{settled_cases}
 
 pub settled_pass : all passes settled_cases ≡ true
 unfolding member count_of records all any tabulate iterate next_in level levels kept_steps ends_from sum_below
     reached_set strike gate_clauses concat out_of node_variables variables node_gates gates select demands clauses
-    open_in take_clause round rounds marks_of walk search same_code place numbered_clauses table_search answers
-    passes distinct nodes_fit table_verdict costs variable_formula repair_verdict
-settled_pass = refl
+    open_in take_clause round rounds marks_of walk search same_code place numbered_clauses table_search ends once
+    searches answers passes distinct nodes_fit table_verdict costs variable_formula repair_verdict
+settled_pass = all_pass settled_cases refl

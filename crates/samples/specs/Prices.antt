@@ -1,6 +1,11 @@
 -- What prices decide: of the sheet, neither its list nor its counts; of a fork, which way is struck.
 use Rattle.std.specs.Prelude.{ℕ, ◌≤◌, ◌<◌, ◌≡◌, List, [], ◌∷◌, ◌++◌, take}
 use Rattle.table.specs.Facts.{IsTable}
+use Rattle.table.specs.Table.{table_of}
+use Rattle.ctl.specs.Reached.{strike}
+use Rattle.closure.specs.Computed.{Marks}
+use Rattle.search.specs.Search.{found, spent}
+use Rattle.search.specs.TableSearch.{search_under, list_of}
 use Rattle.search.specs.declared.answer.Answer.TheVariants.{Found, Spent}
 use Rattle.repair.specs.Effect.{repair_answer, repair_list}
 use Rattle.repair.specs.Right.{LongEnough}
@@ -16,6 +21,13 @@ pub record SheetAt (p q r s : ℕ) : Type 0 where
       × (take 4 (repair_list (priced p q r s) cap list bytes words) ≡ 1 ∷ 1 ∷ 0 ∷ 0 ∷ [])
   pub spent_below_6 : (cap : ℕ) → cap < 6 → (list bytes words : List ℕ) → LongEnough (priced p q r s) list bytes words
       → repair_answer (priced p q r s) cap list bytes words ≡ Spent cap 1
+  -- The same of the search itself. Its list still keeps the step from 2 to 2, also where that costs nothing.
+  pub chosen_from_6 : (cap : ℕ) → 6 ≤ cap
+      → (m : Marks)
+      × (search_under (table_of (priced p q r s)) cap ≡ found m r 6 1)
+      × (list_of (table_of (priced p q r s)) m ≡ 1 ∷ 1 ∷ 0 ∷ 1 ∷ [])
+      × (strike (table_of (priced p q r s)) (list_of (table_of (priced p q r s)) m) ≡ 1 ∷ 1 ∷ 0 ∷ 0 ∷ [])
+  pub cut_below_6 : (cap : ℕ) → cap < 6 → search_under (table_of (priced p q r s)) cap ≡ spent cap 1
 
 abbrev pub SheetAtAnyPrices : Type 0
 SheetAtAnyPrices = (p q r s : ℕ) → SheetAt p q r s

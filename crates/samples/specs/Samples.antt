@@ -8,12 +8,15 @@ use Rattle.ctl.specs.Reached.{strike}
 use Rattle.ctl.specs.Tests.{judge_verdict}
 use Rattle.circuit.specs.Variables.{variable_formula}
 use Rattle.closure.specs.Numbered.{same_code}
+use Rattle.search.specs.Search.{Outcome, found, none, spent}
+use Rattle.search.specs.TableSearch.{search_under, list_of}
 use Rattle.search.specs.declared.answer.Answer.{Answer}
 use Rattle.search.specs.declared.answer.Answer.TheVariants.{Found, None, Spent, Refused}
 use Rattle.repair.specs.Effect.{repair_answer, repair_list}
 
--- What Repair is expected to answer, with its choices and the steps settled before the first. A find is given by a
--- list of its price that strikes to what is written, by what is written, and by the price.
+-- What Repair is expected to answer, with its choices and the steps settled before the first. A find is given by the
+-- list that the search itself finds, by what is written, which is that list struck, and by the price, which is the
+-- one before striking.
 pub data Expected : Type 0 where
   finds : List ℕ → List ℕ → ℕ → ℕ → ℕ → Expected
   finds_none spends : ℕ → ℕ → Expected
@@ -22,6 +25,19 @@ pub data Expected : Type 0 where
 pub data Case : Type 0 where
   repaired : List ℕ → ℕ → Expected → Case
   judged : List ℕ → List ℕ → ℕ → Case
+
+-- what the search itself ends with: a find has the list before it is struck
+unfoldable pub searches : Table → Expected → Outcome → Bool
+searches T (finds chosen written p c k) (found m q d l) =
+    same_code (list_of T m) chosen && eqb q p && eqb d c && eqb l k
+searches T (finds chosen written p c k) (none d l) = false
+searches T (finds chosen written p c k) (spent d l) = false
+searches T (finds_none c k) (found m q d l) = false
+searches T (finds_none c k) (none d l) = eqb d c && eqb l k
+searches T (finds_none c k) (spent d l) = false
+searches T (spends c k) (found m q d l) = false
+searches T (spends c k) (none d l) = false
+searches T (spends c k) (spent d l) = eqb d c && eqb l k
 
 -- the answer, and the list that was lent as it is after the call and as it was before
 unfoldable pub answers : Table → Expected → Answer → List ℕ → List ℕ → Bool
@@ -51,11 +67,12 @@ lent_list T = replicate (length T.steps) 9
 abbrev pub lent_work : Table → List ℕ
 lent_work T = replicate (variable_formula T) 9
 
--- the table is accepted, and the call answers what is expected
+-- the table is accepted, the search ends as is expected, and the call answers that
 unfoldable pub passes : Case → Bool
 passes (repaired table cap expected) =
     let T = table_of table in
     eqb (verdict_number (table_verdict table)) 0
+    && searches T expected (search_under T cap)
     && answers T expected
     (repair_answer table cap (lent_list T) (lent_work T) (lent_work T))
     (repair_list table cap (lent_list T) (lent_work T) (lent_work T))
@@ -88,9 +105,12 @@ two_loops = (2 ∷ 2 ∷ 1 ∷ 1 ∷ []) ++ (1 ∷ 1 ∷ 0 ∷ 1 ∷ 0 ∷ 0 ∷
 abbrev pub dead_end : List ℕ
 dead_end = (2 ∷ 1 ∷ 1 ∷ 0 ∷ []) ++ (1 ∷ 0 ∷ 0 ∷ 0 ∷ 0 ∷ 0 ∷ []) ++ (0 ∷ 1 ∷ 0 ∷ []) ++ (1 ∷ 0 ∷ 0 ∷ [])
 
+-- In the second sample the step that is struck besides costs nothing, so the list that is written has the price of the
+-- one that is found.
 abbrev pub cases : List Case
 cases =
     repaired sheet 1000000 (finds (1 ∷ 1 ∷ 0 ∷ 1 ∷ []) (1 ∷ 1 ∷ 0 ∷ 0 ∷ []) 3 6 1)
+    ∷ repaired (priced 1 2 3 0) 1000000 (finds (1 ∷ 1 ∷ 0 ∷ 1 ∷ []) (1 ∷ 1 ∷ 0 ∷ 0 ∷ []) 3 6 1)
     ∷ repaired sheet 6 (finds (1 ∷ 1 ∷ 0 ∷ 1 ∷ []) (1 ∷ 1 ∷ 0 ∷ 0 ∷ []) 3 6 1)
     ∷ repaired sheet 5 (spends 5 1)
     ∷ repaired sheet 3 (spends 3 1)

@@ -10,7 +10,8 @@ ghost use Rattle.samples.specs.Prices.{price_cases, SheetAtAnyPrices};
 ghost use Rattle.samples.specs.Settled.{settled_cases};
 ghost use Rattle.samples.specs.Holding.{writes, holding_cases};
 
-/// Each sample's table is accepted, and Repair or the judge answers what the sample says.
+/// Each sample's table is accepted, and Repair or the judge answers what the sample says; where that is a find, the
+/// search itself finds the list that the sample says, before it is struck.
 pub fn samples_pass()
     ensures plain { all passes cases ≡ true }
     ensures families { all passes family_cases ≡ true }
@@ -18,7 +19,8 @@ pub fn samples_pass()
     ensures settled { all passes settled_cases ≡ true }
 {}
 
-/// The sheet at any prices: found from cap 6 on, at the price of one step, and spent below.
+/// The sheet at any prices: found from cap 6 on, at the price of one step, and spent below; and the list that the
+/// search itself finds, before it is struck.
 pub fn sheet_at_any_prices()
     ensures { SheetAtAnyPrices }
 {}

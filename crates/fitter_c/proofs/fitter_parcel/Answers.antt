@@ -4,23 +4,16 @@ use Prim.Native.Nat.{ℕ, ◌≤◌, min}
 use native.Mathlib.Decide.{dec_le}
 use native.Mathlib.Nat.{min-eq_left, min-eq_right, min-le_right}
 use native.Mathlib.Omega.{arith}
-use mathlib.Core.Path.{◌≡◌, refl, sym, ap, subst, ◌∙◌}
+use mathlib.Core.Path.{◌≡◌, sym, ◌∙◌}
 use mathlib.Core.Logic.{◌⊎◌, inl, inr}
-use mathlib.Core.List.{List, ◌++◌}
+use mathlib.Core.List.{List}
 use lib.ListN.{length, take, drop, replicate}
 use lib.Seq.{length-take-le}
 use Rattle.std.proofs.Common.{rules}
-use Rattle.std.specs.Prelude.{Ok, Err, Result}
-use Rattle.table.specs.declared.refusal.Refusal.{Refusal}
-use Rattle.table.specs.Verdict.{verdict_number}
+use Rattle.std.specs.Prelude.{Ok, Err}
 use Rattle.search.specs.declared.answer.Answer.{Answer}
 use Rattle.search.specs.declared.answer.Answer.TheVariants.{None as Nothing}
-use Rattle.repair.specs.Effect.{cleared}
-use Rattle.batch.specs.declared.BatchEnd.{BatchEnd}
-use Rattle.batch.specs.Batch.{most_variables}
-use Rattle.batch.specs.Effect.{batch_in, answers_of, lists_after, left_after, room_verdict, end_of, on_tables}
-use Rattle.fitter_c.specs.Answers.{for_c, answers_for_c, tables_for_c, left_for_c}
-use Rattle.fitter_c.proofs.Parcel.{Clauses, refused_clauses, given_clauses}
+use Rattle.fitter_c.proofs.Parcel.{refused_clauses, given_clauses}
 use Rattle.fitter_c.proofs.fitter_parcel.Goals as goal
 
 -- the room that is lent is as good as all of it

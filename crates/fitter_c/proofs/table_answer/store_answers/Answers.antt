@@ -1,17 +1,15 @@
 -- `store_answers` meets its contract: an answer more at the front in each round.
-use Prim.Native.Nat.{ℕ, ◌<◌, ◌≤◌, ◌+◌}
+use Prim.Native.Nat.{◌<◌}
 use native.Mathlib.Omega.{arith}
-use mathlib.Core.Path.{◌≡◌, sym, ap, ◌∙◌}
-use mathlib.Core.List.{List, map}
-use lib.ListN.{length, get_or, set}
+use mathlib.Core.Path.{◌≡◌, ◌∙◌}
+use mathlib.Core.List.{map}
+use lib.ListN.{get_or, set}
 use Rattle.std.proofs.Common.{rules}
 use Rattle.std.specs.Prelude.{slice_set}
-use Rattle.table.specs.Buffer.{over}
 use Rattle.table.proofs.Buffer.{over_next}
 use Rattle.search.specs.declared.answer.Answer.{Answer}
 use Rattle.search.specs.declared.answer.Answer.TheVariants.{Found}
 use Rattle.fitter_c.specs.Answers.{for_c}
-use Rattle.fitter_c.specs.declared.table_answer.TableAnswer.{TableAnswer}
 use Rattle.fitter_c.proofs.Front.{mapped_at, mapped_length}
 use Rattle.fitter_c.proofs.table_answer.store_answers.Goals as goal
 

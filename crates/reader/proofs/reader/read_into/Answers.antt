@@ -1,71 +1,29 @@
--- `read_into` meets its contract: each way out has decided the tests up to its own.
-use Prim.Native.Nat.{ℕ, ◌≤◌}
-use mathlib.Core.Path.{◌≡◌, sym, ap, ◌∙◌}
-use mathlib.Core.List.{List}
-use Rattle.std.specs.Prelude.{Some}
-use native.Mathlib.Omega.{arith}
-use lib.ListN.{length, take, replicate, length-replicate}
-use lib.Seq.{sets}
-use Rattle.table.specs.Table.{packed_length}
-use Rattle.sheet.specs.Form.{Sheet, InRange}
-use Rattle.sheet.specs.Parse.{parse}
-use Rattle.reader.specs.Read.{pack}
-use Rattle.sheet.proofs.Whole.{parse_exact}
-use Rattle.reader.proofs.PackedSheet.{pack-length}
-use Rattle.reader.proofs.Stores.{sets_front}
-use Rattle.reader.proofs.ReadGives.{not_of_form, table_refused, too_long}
-use Rattle.reader.proofs.Found.{text_refused, tested_into, into_refused, into_packed}
+-- `read_into` meets its contract: what was packed is tested.
+use mathlib.Core.Path.{◌≡◌, sym, subst}
+use Rattle.std.proofs.Common.{rules, Err}
+use Rattle.std.specs.Prelude.{Result, IfErr}
+use Rattle.table.specs.declared.refusal.Refusal.{Refusal}
+use Rattle.table.specs.declared.accepted.Accepted.{Accepted}
+use Rattle.reader.specs.Read.{ReadInto}
+use Rattle.reader.specs.Exact.{TextRefused}
+use Rattle.reader.proofs.Found.{text_refused, packed_tested, into_refused, into_packed}
 use Rattle.reader.proofs.reader.read_into.Goals as goal
 
--- the lent bytes at first
-abbrev zeros : List ℕ
-zeros = replicate 580 0
+pub returns-in_err-length-clause-value : goal.returns-in_err-length-clause-value
+returns-in_err-length-clause-value c =
+    let e : c.from_residual.result ≡ Err c.in_err-length.field-0.0 = search rules in
+    subst (ReadInto c.args.text.now) (sym e) c.in_err-length.ensures
 
-module _ (text : List ℕ) {v : Sheet} (e : Some v ≡ parse text) where
-  in_range : InRange v
-  in_range = ((parse_exact text v).0 (sym e)).0
-
-  module _ {n : ℕ} (k : n ≡ packed_length v.counts) where
-    -- the length is the packed sheet's
-    len : n ≡ length (pack v)
-    len = k ∙ sym (pack-length v in_range)
-
-    -- the filled part is the packed sheet
-    stored : n ≤ 580 → {before after : List ℕ} → before ≡ zeros → after ≡ sets before 0 (pack v) → take n after ≡ pack v
-    stored h z a =
-        let few : length (pack v) ≤ length zeros = omega (arith, len, length-replicate {A = ℕ} 580 0) in
-        ap (take n) (a ∙ ap (λ (l : List ℕ). sets l 0 (pack v)) z)
-        ∙ ap (λ (m : ℕ). take m (sets zeros 0 (pack v))) len ∙ sets_front (pack v) zeros few
-
-pub returns-in_default : goal.returns-in_default
-returns-in_default c =
-    let h = not_of_form c.args.text.now 580 (sym c.in_default.ensures) in
-    record { value = h; refused = text_refused c.args.text.now _ h; packed = tt }
-
-pub packed_length-length-requires : goal.packed_length-length-requires
-packed_length-length-requires c =
-    let r = (in_range c.args.text.now c.in-Some.ensures).counts in
-    (omega (arith, r.states), (omega (arith, r.steps), omega (arith, r.nodes)))
-
-pub returns-then-length-gt-LONGEST : goal.returns-then-length-gt-LONGEST
-returns-then-length-gt-LONGEST c =
+pub returns-in_err-length-clause-refused : goal.returns-in_err-length-clause-refused
+returns-in_err-length-clause-refused c =
     let text = c.args.text.now in
-    let p = c.in-Some.ensures in
-    let n = c.packed_length-length.ensures in
-    let h = table_refused text 580 _ (sym p) _ (too_long _ (in_range text p) (omega arith)) in
-    record { value = h; refused = text_refused text _ h; packed = tt }
-
-pub pack_sheet-requires : goal.pack_sheet-requires
-pack_sheet-requires c =
-    let n = c.packed_length-length.ensures in
-    record { in_range = in_range c.args.text.now c.in-Some.ensures; counts_in_bounds = omega arith }
+    let e : c.from_residual.result ≡ Err c.in_err-length.field-0.0 = search rules in
+    subst (λ (r : Result Accepted Refusal). IfErr r (TextRefused text)) (sym e)
+    (text_refused text _ c.in_err-length.ensures)
 
 pub returns : goal.returns
 returns c =
     let text = c.args.text.now in
-    let p = c.in-Some.ensures in
-    let n = c.packed_length-length.ensures in
-    let t = stored text p n c.if-length-gt-LONGEST.false c.requires c.pack_sheet.ensures in
     let r = c.try_from.result in
-    let h = tested_into text _ (sym p) _ t r c.try_from.ensures in
+    let h = packed_tested text _ _ c.in_ok-length.ensures r c.try_from.ensures in
     record { value = h; refused = into_refused text r h; packed = into_packed text r h }
