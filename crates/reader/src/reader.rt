@@ -28,8 +28,8 @@ fn pack_text(text: &[u8], packed: &mut [u8; LONGEST]) -> Result<usize, Refusal>
     Ok(length)
 }
 
-/// Reads a sheet into zero bytes that the caller lends, and tests the table there, 2 to 8, which is cut into its
-/// sections once. The answer borrows these bytes.
+/// Reads a sheet into zero bytes that the caller lends, and tests the table there. The answer borrows these bytes.
+// 2 to 8 are tested on the table, which is cut into its sections once.
 pub fn read_into<'a>(text: &[u8], packed: &'a mut [u8; LONGEST]) -> Result<Accepted<'a>, Refusal>
     requires { packed.old ≡ replicate LONGEST 0 }
     ensures value { ReadInto text.now result }
@@ -43,8 +43,8 @@ pub fn read_into<'a>(text: &[u8], packed: &'a mut [u8; LONGEST]) -> Result<Accep
 
 /// Reads a sheet into a packed table at the front of the lent buffer, and answers how many bytes it has: at most 580.
 // The reader packs into zero bytes of its own, as many as the longest table, before it writes: 10 is tested last, and
-// only then the lent buffer is written. It copies from its own bytes, not from what `read_into` would hand back: of
-// these the compiler knows that they lie apart from the lent ones, so the archive for C needs no `memmove`.
+// only then the lent buffer is written. It copies from its own bytes, of which the compiler knows that they lie apart
+// from the lent ones; of what `read_into` hands back it does not, and the archive for C would need `memmove`.
 pub fn read(text: &[u8], out: &mut [u8]) -> Result<usize, Refusal>
     ensures value { result ≡ read_answer text.now out.old }
     ensures out_after { out.new ≡ read_buffer text.now out.old }
