@@ -178,18 +178,16 @@ module _ (text : List ℕ) where
     accepted_just (Err r) h table = (λ ok. absurd (false≢true ok), λ x. absurd (refused r (sym h ∙ readable x)))
 
 -- what the tests of a packed sheet gave, as what was read
-module _ (text : List ℕ) (v : Sheet) (e : parse text ≡ Some v) (bytes : List ℕ) (same : bytes ≡ pack v) where
-  by_tests_of : (r : Result Accepted Refusal) → AcceptedFrom (pack v) r → ReadInto text r
-  by_tests_of (Ok a) f = (room_enough text v e ((is_table (pack v)).1 f.1), f.0 ∙ ap packed (sym e))
-  by_tests_of (Err r) f = table_refused text 580 v e r f.0
+by_tests_of : (text : List ℕ) (v : Sheet) → parse text ≡ Some v → (r : Result Accepted Refusal)
+    → AcceptedFrom (pack v) r → ReadInto text r
+by_tests_of text v e (Ok a) f = (room_enough text v e ((is_table (pack v)).1 f.1), f.0 ∙ ap packed (sym e))
+by_tests_of text v e (Err r) f = table_refused text 580 v e r f.0
 
-  tested_into : (r : Result Accepted Refusal) → AcceptedFrom bytes r → ReadInto text r
-  tested_into r f = by_tests_of r (subst (λ (l : List ℕ). AcceptedFrom l r) same f)
-
--- the same of what a text was packed to
+-- the same of the bytes that a text was packed to
 pub packed_tested : (text bytes : List ℕ) (n : ℕ) → PackedText text bytes (Ok n) → (r : Result Accepted Refusal)
     → AcceptedFrom (take n bytes) r → ReadInto text r
-packed_tested text bytes n (few, (w, e, same)) r f = tested_into text w e (take n bytes) same r f
+packed_tested text bytes n (few, (w, e, same)) r f =
+    by_tests_of text w e r (subst (λ (l : List ℕ). AcceptedFrom l r) same f)
 
 -- why it was refused, and which table was read
 pub into_refused : (text : List ℕ) (r : Result Accepted Refusal) → ReadInto text r → IfErr r (TextRefused text)
